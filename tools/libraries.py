@@ -45,7 +45,7 @@ class Group(NamedTuple):
 # Every crate is in exactly one of these groups.
 GROUPS = {
     "geometry": Group(
-        "lf_spans lf_gaps lf_units lf_rtree lf_orient lf_floorplan",
+        "lf_units lf_gaps lf_orient lf_floorplan",
         "spans, numbers, boxes, orientations, and the types of a frame",
     ),
     "texts": Group(
@@ -53,11 +53,11 @@ GROUPS = {
         "tokens, names, the readers of LEF and DEF, and what is written of a design",
     ),
     "loading": Group(
-        "lf_frame lf_frame_claims lf_frame_checks",
+        "lf_frame",
         "the claims of fences, the refusals of designs, the frame and the cells of a design",
     ),
     "placement": Group(
-        "lf_segments lf_frame_index lf_density lf_rules lf_cells lf_undo lf_occupancy lf_legalize lf_reports "
+        "lf_segments lf_density lf_rules lf_cells lf_undo lf_occupancy lf_legalize lf_reports "
         "lf_placement",
         "the usable spans of rows, how full they are, the rules, the cells, and the search for best places",
     ),
@@ -75,7 +75,7 @@ GROUPS = {
         "the state of all teams. `lf_floor_model` defines outcomes and proves laws, and has no code. `lf_floor_verbs`"
         " changes the tables. `lf_floor` finds the team, saves and restores",
     ),
-    "state": Group("lf_state_*", "the text of a saved state, and the tables that are restored from it"),
+    "state": Group("lf_state_*", "the text of a saved state"),
     "journal": Group(
         "lf_journal lf_journal_*",
         "the journal of a hub. `_text` is its text, `lf_journal` puts batches on a disk, `_file` is a file as a disk",
@@ -84,13 +84,13 @@ GROUPS = {
     "wires": Group(
         "lf_wire_*",
         "nets and their lengths. `_pins` and `_nets` read texts, `_length` measures, `_binding` finds the cells of"
-        " pins, `_density` counts pins in bins, and `_report` prints. `_targets` says where cells without a place are"
+        " pins, `_density` counts pins in bins. `_targets` says where cells without a place are"
         " near their nets. `_board` measures what moves of cells change, and `_improver` looks for moves that make nets"
         " shorter",
     ),
-    "improvements": Group("lf_improve_*", "shorter wires"),
+    "improvements": Group("lf_improve_*", "the search for shorter wires"),
     "io": Group(
-        "lf_io lf_io_files",
+        "lf_io",
         "outputs, which take a text; devices, which give and take bytes; and files, which are replaced as a whole",
     ),
     "laws": Group("lf_laws_*", "theorems over several crates, without code"),
@@ -105,6 +105,10 @@ GROUPS = {
 # More names for the rules, of parts of these groups.
 PARTS = {
     "readers": Group("lf_lef lf_def", "the part of texts that reads designs"),
+    "files": Group(
+        "lf_io::OutputFiles lf_io::FsOutputFiles lf_io::TextSource lf_io::WriteFailure lf_io::WriteFailureKind",
+        "the part of io that writes files",
+    ),
     "devices": Group(
         "lf_io::Source lf_io::Sink lf_io::FromRead lf_io::ToWrite lf_io::DeviceFault lf_io::send",
         "the part of io without files and outputs",
@@ -174,7 +178,7 @@ RULES = (
     Rule(
         "protocol",
         Kind.INDEPENDENT,
-        "readers loading lf_io_files tasks repairs",
+        "readers loading files tasks repairs",
         "Lines and replies are the same for every design and every task.",
     ),
     Rule(
@@ -186,7 +190,7 @@ RULES = (
     Rule(
         "floor",
         Kind.INDEPENDENT,
-        "readers loading devices lf_io_files lf_server repairs",
+        "readers loading devices files lf_server repairs",
         "The theorem is on the floor alone, so nothing from outside it may decide a reply.",
     ),
     Rule(
@@ -198,8 +202,8 @@ RULES = (
     Rule(
         "state",
         Kind.INDEPENDENT,
-        "readers loading devices lf_io_files lf_floor lf_floor_verbs",
-        "`lf_floor` saves and restores by these crates, so they are below it.",
+        "readers loading devices files lf_floor lf_floor_verbs",
+        "`lf_floor` saves and restores by these crates, so it is below.",
     ),
     Rule(
         "lf_state_text",
@@ -207,17 +211,17 @@ RULES = (
         "lf_cells lf_placement",
         "The text is read and written by the names of a design (`DesignSchema`), without its tables.",
     ),
-    Rule("laws", Kind.INDEPENDENT, "lf_io_files tasks repairs", "The laws are on what the tasks are built of."),
+    Rule("laws", Kind.INDEPENDENT, "files tasks repairs", "The laws are on what the tasks are built of."),
     Rule(
-        "lf_repair_packing lf_repair_planner lf_repair_strategy lf_repair_team lf_repair_report",
+        "lf_repair_planner lf_repair_strategy lf_repair_team",
         Kind.ORDERED,
         "",
         "Each crate of a repair uses the ones before it.",
     ),
     Rule(
-        "lf_repair_packing lf_repair_planner",
+        "lf_repair_planner",
         Kind.INDEPENDENT,
-        "all -lf_repair_packing",
+        "all",
         "The planner knows sites and widths alone, so that it can be tried without a design.",
     ),
     Rule(
@@ -235,11 +239,11 @@ RULES = (
     Rule(
         "repairs improvements",
         Kind.UNNAMED,
-        "readers loading lf_io_files lf_server",
+        "readers loading files lf_server",
         "They work on a floor, wherever it comes from, and write to a device.",
     ),
     Rule(
-        "lf_improve_strategy lf_improve_team lf_improve_report",
+        "lf_improve_strategy lf_improve_team",
         Kind.ORDERED,
         "",
         "Each crate of an improvement uses the ones before it.",
@@ -259,25 +263,14 @@ RULES = (
     Rule(
         "wires",
         Kind.INDEPENDENT,
-        "floor lf_io_files",
+        "floor files",
         "Nets are looked at over a whole design, and no reply has them.",
     ),
-    Rule(
-        "wires -lf_wire_report",
-        Kind.INDEPENDENT,
-        "lf_rules",
-        "A length does not depend on legality. Only `lf_wire_report` prints by `lf_describe`, which knows rules.",
-    ),
-    Rule(
-        "lf_wire_board lf_wire_improver",
-        Kind.INDEPENDENT,
-        "all -lf_repair_packing -lf_repair_planner -lf_wire_board",
-        "The search for shorter wires knows sites alone, as the planner does.",
-    ),
+    Rule("wires", Kind.INDEPENDENT, "lf_rules", "A length does not depend on legality."),
     Rule(
         "wires -lf_wire_targets",
         Kind.RESERVED,
-        "lf_wire_targets improvements lf_task_wires lf_task_improve tests",
+        "lf_wire_targets improvements lf_task_reports lf_task_wires lf_task_improve tests",
         "No verb may pay for nets, or depend on them: a reply would then depend on other teams' cells.",
     ),
     Rule(
@@ -294,7 +287,7 @@ RULES = (
     ),
     Rule("io", Kind.INDEPENDENT, "all", "Devices and files are at the bottom, and any group may name `Output`."),
     Rule(
-        "lf_io_files",
+        "files",
         Kind.RESERVED,
         "lf_task_* lf_app tests",
         "Only tasks write files, so what a task writes can be said in one place.",
@@ -313,10 +306,11 @@ RULES = (
         "What tasks share is below them. `lf_task_repair` and `lf_task_improve` are works that `lf_task_run` runs.",
     ),
     Rule(
-        "lf_task_* -lf_task_files",
+        "lf_task_* -lf_task_files -lf_task_reports",
         Kind.UNNAMED,
         "lf_floor_verbs lf_placement",
-        "Tasks reach the tables through a floor. Only `lf_task_files` tests places that no command asks for.",
+        "Tasks reach the tables through a floor. Only `lf_task_files` tests places that no command asks for, and"
+        " `lf_task_reports` measures gaps and density in a placement.",
     ),
     Rule(
         "lf_task_serve",

@@ -186,58 +186,58 @@ says of them."""
 
 # The crates to be made, each of its members. The first member that has the crate's name is its base.
 MERGES = {
-    "lf_units": Merge(("lf_spans", "lf_units", "lf_rtree"), UNITS, "lf_units"),
-    "lf_io": Merge(("lf_io", "lf_io_files"), DEVICES, "lf_io"),
-    "lf_segments": Merge(("lf_segments", "lf_frame_index"), SEGMENTS, "lf_segments"),
-    "lf_frame": Merge(("lf_frame_claims", "lf_frame_checks", "lf_frame"), FRAME, "lf_frame"),
-    "lf_floor": Merge(("lf_state_restore", "lf_floor"), FLOOR, "lf_floor"),
-    "lf_wire_nets": Merge(("lf_wire_pins", "lf_wire_nets", "lf_wire_binding"), NETS, "lf_wire_binding"),
-    "lf_repair_planner": Merge(("lf_repair_packing", "lf_repair_planner"), PLANNER, "lf_repair_planner"),
+    "lf_units": Merge(("lf_units", "lf_units", "lf_units"), UNITS, "lf_units"),
+    "lf_io": Merge(("lf_io", "lf_io"), DEVICES, "lf_io"),
+    "lf_segments": Merge(("lf_segments", "lf_segments"), SEGMENTS, "lf_segments"),
+    "lf_frame": Merge(("lf_frame", "lf_frame", "lf_frame"), FRAME, "lf_frame"),
+    "lf_floor": Merge(("lf_floor", "lf_floor"), FLOOR, "lf_floor"),
+    "lf_wire_nets": Merge(("lf_wire_nets", "lf_wire_nets", "lf_wire_nets"), NETS, "lf_wire_nets"),
+    "lf_repair_planner": Merge(("lf_repair_planner", "lf_repair_planner"), PLANNER, "lf_repair_planner"),
     "lf_improve_strategy": Merge(
-        ("lf_wire_board", "lf_wire_improver", "lf_improve_strategy"), IMPROVER, "lf_improve_strategy"
+        ("lf_improve_strategy", "lf_improve_strategy", "lf_improve_strategy"), IMPROVER, "lf_improve_strategy"
     ),
-    "lf_task_reports": Merge(("lf_repair_report", "lf_improve_report", "lf_wire_report"), REPORTS, "lf_repair_report"),
-    "lf_tests_basics": Merge(("lf_tests_basics", "lf_tests_protocol", "lf_tests_wires"), TESTS_BASICS, ""),
-    "lf_tests_floor": Merge(("lf_tests_placement", "lf_tests_floor", "lf_tests_repair"), TESTS_FLOOR, ""),
+    "lf_task_reports": Merge(("lf_task_reports", "lf_task_reports", "lf_task_reports"), REPORTS, "lf_task_reports"),
+    "lf_tests_basics": Merge(("lf_tests_basics", "lf_tests_basics", "lf_tests_basics"), TESTS_BASICS, ""),
+    "lf_tests_floor": Merge(("lf_tests_floor", "lf_tests_floor", "lf_tests_floor"), TESTS_FLOOR, ""),
 }
 
 # New names where two members have the same one, or where a name says too little in the larger crate: of modules (with
 # their folders of proofs), specs (S:), lemma files (P:), mutants and must-fail edits (M:).
 RENAMES = {
-    ("lf_spans", "P:Edges"): "SpanEdges",
-    ("lf_rtree", "P:Bounds"): "TreeBounds",
-    ("lf_frame_index", "laws"): "index_laws",
-    ("lf_frame_claims", "S:Refusals"): "ClaimRefusals",
-    ("lf_frame_claims", "S:Tables"): "ComponentNames",
-    ("lf_state_restore", "laws"): "restoring_laws",
-    ("lf_state_restore", "cells"): "restored_cells",
-    ("lf_state_restore", "entries"): "restored_entries",
-    ("lf_wire_pins", "read"): "read_pins",
+    ("lf_units", "P:Edges"): "SpanEdges",
+    ("lf_units", "P:Bounds"): "TreeBounds",
+    ("lf_segments", "laws"): "index_laws",
+    ("lf_frame", "S:Refusals"): "ClaimRefusals",
+    ("lf_frame", "S:Tables"): "ComponentNames",
+    ("lf_floor", "laws"): "restoring_laws",
+    ("lf_floor", "cells"): "restored_cells",
+    ("lf_floor", "entries"): "restored_entries",
+    ("lf_wire_nets", "read"): "read_pins",
     ("lf_wire_nets", "read"): "read_nets",
     ("lf_wire_nets", "terms"): "net_terms",
     ("lf_wire_nets", "contents"): "design_nets",
     ("lf_wire_nets", "S:Ranges"): "NetRanges",
     ("lf_wire_nets", "S:Stored"): "StoredNets",
-    ("lf_wire_pins", "S:Stored"): "StoredPins",
-    ("lf_wire_binding", "terms"): "bound_terms",
-    ("lf_wire_binding", "S:Ranges"): "BoundRanges",
-    ("lf_repair_packing", "window"): "shifted_window",
-    ("lf_repair_packing", "cells"): "packed_cell",
-    ("lf_repair_packing", "insertion"): "packed_insertion",
-    ("lf_wire_board", "nets"): "nets_on_board",
-    ("lf_repair_report", "json"): "repair_json",
-    ("lf_repair_report", "report"): "repair_report",
-    ("lf_improve_report", "json"): "improvement_json",
-    ("lf_improve_report", "report"): "improvement_report",
-    ("lf_wire_report", "json"): "length_json",
-    ("lf_wire_report", "report"): "length_report",
-    ("lf_tests_wires", "faults"): "wire_faults",
+    ("lf_wire_nets", "S:Stored"): "StoredPins",
+    ("lf_wire_nets", "terms"): "bound_terms",
+    ("lf_wire_nets", "S:Ranges"): "BoundRanges",
+    ("lf_repair_planner", "window"): "shifted_window",
+    ("lf_repair_planner", "cells"): "packed_cell",
+    ("lf_repair_planner", "insertion"): "packed_insertion",
+    ("lf_improve_strategy", "nets"): "nets_on_board",
+    ("lf_task_reports", "json"): "repair_json",
+    ("lf_task_reports", "report"): "repair_report",
+    ("lf_task_reports", "json"): "improvement_json",
+    ("lf_task_reports", "report"): "improvement_report",
+    ("lf_task_reports", "json"): "length_json",
+    ("lf_task_reports", "report"): "length_report",
+    ("lf_tests_basics", "faults"): "wire_faults",
 }
 # What is appended to the name of an edit that two members have.
 EDITS = {
-    "lf_repair_report": "_of_a_repair",
-    "lf_improve_report": "_of_an_improvement",
-    "lf_wire_report": "_of_lengths",
+    "lf_task_reports": "_of_a_repair",
+    "lf_task_reports": "_of_an_improvement",
+    "lf_task_reports": "_of_lengths",
 }
 
 # Changes of tools/libraries.py that need a decision, by the crate that is made: old text, new text. Names of members are
@@ -245,19 +245,19 @@ EDITS = {
 RULES: dict[str, list[tuple[str, str]]] = {
     "lf_repair_planner": [
         (
-            '"lf_repair_packing lf_repair_planner lf_repair_strategy lf_repair_team lf_repair_report"',
-            '"lf_repair_planner lf_repair_strategy lf_repair_team lf_repair_report"',
+            '"lf_repair_planner lf_repair_planner lf_repair_strategy lf_repair_team lf_task_reports"',
+            '"lf_repair_planner lf_repair_strategy lf_repair_team lf_task_reports"',
         ),
         (
-            '        "lf_repair_packing lf_repair_planner",\n        Kind.INDEPENDENT,\n        "all -lf_repair_packing",\n',
+            '        "lf_repair_planner lf_repair_planner",\n        Kind.INDEPENDENT,\n        "all -lf_repair_planner",\n',
             '        "lf_repair_planner",\n        Kind.INDEPENDENT,\n        "all",\n',
         ),
-        ('"all -lf_repair_packing -lf_repair_planner -lf_wire_board"', '"all -lf_repair_planner -lf_wire_board"'),
+        ('"all -lf_repair_planner -lf_repair_planner -lf_improve_strategy"', '"all -lf_repair_planner -lf_improve_strategy"'),
     ],
     "lf_improve_strategy": [
         (
-            '    Rule(\n        "lf_wire_board lf_wire_improver",\n        Kind.INDEPENDENT,\n'
-            '        "all -lf_repair_planner -lf_wire_board",\n'
+            '    Rule(\n        "lf_improve_strategy lf_improve_strategy",\n        Kind.INDEPENDENT,\n'
+            '        "all -lf_repair_planner -lf_improve_strategy",\n'
             '        "The search for shorter wires knows sites alone, as the planner does.",\n    ),\n',
             "",
         ),
@@ -276,14 +276,14 @@ RULES: dict[str, list[tuple[str, str]]] = {
     ],
     "lf_task_reports": [
         (
-            '"lf_repair_planner lf_repair_strategy lf_repair_team lf_repair_report"',
+            '"lf_repair_planner lf_repair_strategy lf_repair_team lf_task_reports"',
             '"lf_repair_planner lf_repair_strategy lf_repair_team"',
         ),
-        ('"lf_improve_strategy lf_improve_team lf_improve_report"', '"lf_improve_strategy lf_improve_team"'),
+        ('"lf_improve_strategy lf_improve_team lf_task_reports"', '"lf_improve_strategy lf_improve_team"'),
         (", and `_report` prints. `_targets`", ". `_targets`"),
         (
-            '    Rule(\n        "wires -lf_wire_report",\n        Kind.INDEPENDENT,\n        "lf_rules",\n'
-            '        "A length does not depend on legality. Only `lf_wire_report` prints by `lf_describe`, which knows'
+            '    Rule(\n        "wires -lf_task_reports",\n        Kind.INDEPENDENT,\n        "lf_rules",\n'
+            '        "A length does not depend on legality. Only `lf_task_reports` prints by `lf_describe`, which knows'
             ' rules.",\n    ),\n',
             '    Rule("wires", Kind.INDEPENDENT, "lf_rules", "A length does not depend on legality."),\n',
         ),
@@ -313,17 +313,17 @@ RULES: dict[str, list[tuple[str, str]]] = {
             '        "the part of io that writes files",\n    ),\n'
             '    "devices": Group(',
         ),
-        ('"lf_io lf_io_files",\n', '"lf_io",\n'),
-        ('        "lf_io_files",\n        Kind.RESERVED,', '        "files",\n        Kind.RESERVED,'),
-        ("readers loading lf_io_files tasks repairs", "readers loading files tasks repairs"),
-        ("readers loading devices lf_io_files lf_server repairs", "readers loading devices files lf_server repairs"),
+        ('"lf_io lf_io",\n', '"lf_io",\n'),
+        ('        "lf_io",\n        Kind.RESERVED,', '        "files",\n        Kind.RESERVED,'),
+        ("readers loading lf_io tasks repairs", "readers loading files tasks repairs"),
+        ("readers loading devices lf_io lf_server repairs", "readers loading devices files lf_server repairs"),
         (
-            "readers loading devices lf_io_files lf_floor lf_floor_verbs",
+            "readers loading devices lf_io lf_floor lf_floor_verbs",
             "readers loading devices files lf_floor lf_floor_verbs",
         ),
-        ('"lf_io_files tasks repairs"', '"files tasks repairs"'),
-        ("readers loading lf_io_files lf_server", "readers loading files lf_server"),
-        ('"floor lf_io_files"', '"floor files"'),
+        ('"lf_io tasks repairs"', '"files tasks repairs"'),
+        ("readers loading lf_io lf_server", "readers loading files lf_server"),
+        ('"floor lf_io"', '"floor files"'),
     ],
     "lf_floor": [
         ('"the text of a saved state, and the tables that are restored from it"', '"the text of a saved state"'),

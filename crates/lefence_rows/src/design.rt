@@ -5,7 +5,7 @@ ghost use Rattle.lf_floorplan.specs.declared.limits.Limits.{Limits as TheLimits}
 ghost use Rattle.lf_floorplan.specs.declared.place.Place.{Place};
 ghost use Rattle.lf_frame.specs.Loads.{IsLoadedFrom};
 ghost use Rattle.lf_lef.specs.Contents.{Contents};
-ghost use Rattle.lf_frame_checks.specs.Findings.{inputs};
+ghost use Rattle.lf_frame.specs.Findings.{inputs};
 ghost use Rattle.lf_floor_model.specs.Places.{AreCommittedPlaces};
 ghost use Rattle.lf_floor_model.specs.States.{FloorState};
 ghost use Rattle.lf_write.specs.Export.{AreExportable};

@@ -7,8 +7,7 @@ use lf_app::{
     Acceptor, BindFailure, ClientReader, ClientWriter, Connection, Environment, InputFiles,
     NoProgress, PortListener, ReadFailure, ServiceConfig, Slots, Task, perform_over, single_chunk,
 };
-use lf_io::{DeviceFault, FromRead, ToWrite};
-use lf_io_files::{OutputFiles, TextSource, WriteFailure};
+use lf_io::{DeviceFault, FromRead, OutputFiles, TextSource, ToWrite, WriteFailure};
 use lf_units::Sequence;
 use std::alloc::{AllocError, Global};
 use std::collections::VecDeque;

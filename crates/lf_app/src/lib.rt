@@ -69,8 +69,7 @@ pub use lf_cli::{
     Help, ImproveOptions, LegalCells, RepairFiles, RepairOptions, Slots, Subcommand, Task,
     UsageFault, command_of, help_of, usage_message,
 };
-pub use lf_io::{FromRead, ToWrite};
-pub use lf_io_files::FsOutputFiles;
+pub use lf_io::{FromRead, FsOutputFiles, ToWrite};
 pub use lf_server::{Acceptor, ClientReader, ClientWriter, Connection, ServiceConfig};
 pub use lf_task_designs::{FsInputFiles, InputFiles, single_chunk};
 pub use lf_task_faults::{

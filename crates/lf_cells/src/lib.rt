@@ -18,7 +18,7 @@
 //! - `table_parts`: the lists of a table, and how a loaded design fills them
 //! - `table`: the table of all teams' cells
 //!
-//! From `crates/lf_tests_placement/src/cells.rt`:
+//! From `crates/lf_tests_floor/src/cells.rt`:
 //!
 //! ```
 //! let Some(second) = table.find_own(0, b"a2") else {

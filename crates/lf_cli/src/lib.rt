@@ -15,7 +15,7 @@
 //! - `parse`: the task that the words name, and messages about wrong words
 //! - `help`: requests for help and for the version
 //!
-//! From `crates/lf_tests_protocol/src/words.rt`:
+//! From `crates/lf_tests_basics/src/words.rt`:
 //!
 //! ```
 //! let words = words_of(alloc, line)?;

@@ -8,7 +8,7 @@ use Rattle.lf_units.specs.declared.geometry.Rect.{Rect}
 use Rattle.lf_floorplan.specs.declared.frame.Frame.{Frame}
 use Rattle.lf_floorplan.specs.declared.parts.Row.{Row}
 use Rattle.lf_floorplan.specs.Rows.{row_area}
-use Rattle.lf_frame_index.specs.Indexes.{hull}
+use Rattle.lf_segments.specs.Indexes.{hull}
 use Rattle.lf_density.specs.declared.grid.BinGrid.{BinGrid}
 
 -- ---- the core

@@ -8,7 +8,7 @@ use Rattle.lf_units.specs.declared.geometry.Rect.{Rect}
 use Rattle.lf_floorplan.specs.declared.frame.Frame.{Frame}
 use Rattle.lf_segments.specs.declared.segment.Segment.{Segment}
 use Rattle.lf_segments.specs.Segments.{IsCut}
-use Rattle.lf_frame_index.specs.Strips.{strip_of}
+use Rattle.lf_segments.specs.Strips.{strip_of}
 use Rattle.lf_density.specs.declared.density.Density.{Density}
 use Rattle.lf_density.specs.declared.grid.BinGrid.{BinGrid}
 use Rattle.lf_density.specs.Bins.{bin_areas, capped, grid_of}

@@ -2,7 +2,7 @@
 
 ghost use Rattle.std.specs.Prelude.{◌≡◌, ◌≤◌, IfOk, length, map};
 ghost use Rattle.std.specs.List.Sorted.{IsNonDecreasing};
-ghost use Rattle.lf_frame_index.specs.Indexes.{IsIndexOf};
+ghost use Rattle.lf_segments.specs.Indexes.{IsIndexOf};
 ghost use Rattle.lf_density.specs.Bins.{IsSmallGrid};
 ghost use Rattle.lf_density.specs.Density.{IsDensityIn, IsDensityOf, density_by, no_density};
 
@@ -10,7 +10,7 @@ use crate::areas::areas_of;
 use crate::fullest::{mean_of_fullest, utilizations};
 use crate::grid::{BinGrid, grid_of};
 use lf_floorplan::Frame;
-use lf_frame_index::{FrameIndex, Strip};
+use lf_segments::{FrameIndex, Strip};
 use lf_units::Rect;
 use std::alloc::{AllocError, Global};
 

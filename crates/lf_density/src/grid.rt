@@ -4,7 +4,7 @@ ghost use Rattle.std.specs.Prelude.{◌≡◌, ◌*◌, ◌/◌, ◌+◌, ◌%�
 ghost use Rattle.std.specs.Int.RustNames.{unsigned_abs};
 ghost use Rattle.std.specs.Int.{int_max, int_min};
 ghost use Rattle.lf_floorplan.specs.Rows.{IsCoreRow, row_area};
-ghost use Rattle.lf_frame_index.specs.Indexes.{hull as hull_of};
+ghost use Rattle.lf_segments.specs.Indexes.{hull as hull_of};
 ghost use Rattle.lf_density.specs.Bins.{IsSmallGrid, box_around, core_box as box_of_core, grid_of as grid_in, grid_over as grid_on, is_small, past as past_of, row_boxes};
 
 use lf_floorplan::{Frame, Row};

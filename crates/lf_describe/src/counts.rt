@@ -7,14 +7,14 @@ ghost use Rattle.lf_rules.specs.Legalizer.{Legalizer};
 ghost use Rattle.lf_rules.specs.Reports.{IsClean};
 ghost use Rattle.lf_reports.specs.Reports.{AreVerdicts, IsListed, listed_at, with_byte_name};
 ghost use Rattle.lf_density.specs.Density.{IsDensityOf};
-ghost use Rattle.lf_frame_index.specs.Indexes.{IsIndexOf};
+ghost use Rattle.lf_segments.specs.Indexes.{IsIndexOf};
 ghost use Rattle.lf_describe.specs.Description.{placed_box, placed_boxes as boxes_of_placed, places_in_text};
 
 use lf_density::{Density, density_of};
 use lf_floorplan::{Frame, LoadedCells, mac_at};
-use lf_frame_index::{FrameIndex, IndexedFrame};
 use lf_reports::verdicts_with_plan;
 use lf_rules::{Broken, Listed, Padding, box_of};
+use lf_segments::{FrameIndex, IndexedFrame};
 use lf_units::Rect;
 use std::alloc::{AllocError, Global};
 

@@ -18,9 +18,9 @@ use crate::line_kinds::{counts_in, put_parts};
 use crate::line_output::LineFault;
 use lf_def::{Component, DefDoc, is_fixed};
 use lf_floorplan::{Frame, Loaded, cell_is_sized};
-use lf_frame_index::FrameIndex;
 use lf_io::Sink;
 use lf_rules::{Listed, legalizer_exists};
+use lf_segments::FrameIndex;
 use std::alloc::{AllocError, Global};
 
 /// Why a design was not described.

@@ -5,7 +5,7 @@
 //! breaks there. `docs/CLI.md` lists the keys. Each line is compact JSON. The whole text is a
 //! definition (`description`) over the loaded design and the document of the DEF text.
 //!
-//! Used by `lf_wire_report`, `lf_repair_report`, `lf_improve_report` and `lf_task_files`.
+//! Used by `lf_task_reports` and `lf_task_files`.
 //!
 //! Modules, in reading order:
 //!
@@ -17,7 +17,7 @@
 //! - `description`: the whole description
 //! - `laws`: a law on names
 //!
-//! From `crates/lf_repair_report/src/report.rt`:
+//! From `crates/lf_task_reports/src/repair_report.rt`:
 //!
 //! ```
 //! let name = name_value(alloc, team)?;

@@ -7,8 +7,8 @@ use Rattle.lf_floor_model.specs.States.{FloorState, TeamState}
 use Rattle.lf_floor_model.specs.Steps.{floor_of}
 use Rattle.lf_state_text.specs.declared.saved_rows.SavedCell.{SavedCell}
 use Rattle.lf_state_text.specs.Saved.{SavedTeam}
-use Rattle.lf_state_restore.proofs.Restoring.{same_head, same_tail}
-use Rattle.lf_state_restore.specs.Saved.{ShareDesign, fixed_cells, fixed_part, map_two, restored_floor, restored_cell, restored_team}
+use Rattle.lf_floor.proofs.Restoring.{same_head, same_tail}
+use Rattle.lf_floor.specs.Saved.{ShareDesign, fixed_cells, fixed_part, map_two, restored_floor, restored_cell, restored_team}
 
 one_cell : (c d : Cell) (s : SavedCell) → fixed_part c ≡ fixed_part d → restored_cell c s ≡ restored_cell d s
 one_cell c d s is = ap (λ (f : List ℕ × ℕ). record { name = f.0; mac = f.1; working = s.working; committed = s.committed }) is

@@ -1,3 +1,11 @@
+pub mod Restoring
+pub mod KeepingDesign
+pub mod Placed
+pub mod Emptying
+pub mod Legality
+pub mod Framing
+pub mod ReportedTeams
+pub mod Fitting
 pub mod Rows
 pub mod Places
 pub mod Alike

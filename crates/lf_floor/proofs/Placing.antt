@@ -18,9 +18,9 @@ use Rattle.lf_state_text.specs.declared.saved_rows.SavedCell.{SavedCell}
 use Rattle.lf_state_text.specs.declared.saved_rows.SavedTeamRow.{SavedTeamRow}
 use Rattle.lf_state_text.specs.Designs.{NamedTeam}
 use Rattle.lf_state_text.specs.Saved.{SavedTeam, saved_at, team_view, team_views, IsSavedTeamOf}
-use Rattle.lf_state_restore.specs.Saved.{MatchDesign, map_two, named_team, restored_floor, restored_cell, restored_team, saved_cell}
-use Rattle.lf_state_restore.specs.Placed.{AreAsMany, without_cells}
-use Rattle.lf_state_restore.proofs.Framing.{cells_names, due_at, due_each, due_many, restored_each, restored_twice, saved_restored, team_placed}
+use Rattle.lf_floor.specs.Saved.{MatchDesign, map_two, named_team, restored_floor, restored_cell, restored_team, saved_cell}
+use Rattle.lf_floor.specs.Placed.{AreAsMany, without_cells}
+use Rattle.lf_floor.proofs.Framing.{cells_names, due_at, due_each, due_many, restored_each, restored_twice, saved_restored, team_placed}
 use Rattle.lf_floor_verbs.specs.declared.tables.Tables.{Tables}
 use Rattle.lf_floor.specs.SavedStates.{HasNoEntriesYet, FirstHaveNoEntriesYet, PlacesTeams, saved_teams_at, saved_team_at}
 use Rattle.lf_floor_verbs.specs.Tables.{AreTables, EntriesFit, table_cells, floor_in, frame_of, own_team, padding_of, revision_of, team_with, teams_in}

@@ -4,7 +4,7 @@ use Rattle.std.proofs.lemmas.List.{length-append}
 use Rattle.lf_cells.specs.Cells.{Cells, cells_of}
 use Rattle.lf_floor_model.specs.States.{TeamState}
 use Rattle.lf_state_text.specs.Saved.{SavedTeam, IsSavedTeamOf}
-use Rattle.lf_state_restore.specs.Saved.{map_two, named_team, restored_floor, restored_team, saved_cell}
+use Rattle.lf_floor.specs.Saved.{map_two, named_team, restored_floor, restored_team, saved_cell}
 use Rattle.lf_floor_verbs.specs.declared.tables.Tables.{Tables}
 use Rattle.lf_floor_verbs.specs.Tables.{EntriesFit, HasTeamRow, KeepsOtherTeams, floor_in, frame_of, own_team, teams_in}
 use Rattle.lf_floor.specs.SavedStates.{saved_teams_at, saved_team_at}

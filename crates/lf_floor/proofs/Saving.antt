@@ -27,10 +27,10 @@ use Rattle.lf_state_text.specs.declared.fault.StateError.{StateError}
 use Rattle.lf_state_text.specs.declared.fault.StateError.TheVariants.{Memory, Fault}
 use Rattle.lf_state_text.specs.Reading.{FailsAt, saved_state_of}
 use Rattle.lf_state_text.specs.Saved.{AreOf, IsSavedInRange, SavedTeam, saved_at, team_view, team_views, IsSavedTeamOf}
-use Rattle.lf_state_restore.specs.Saved.{MatchDesign, ShareDesign, IsRestoredFrom, IsStateText, RestoredIsCommitted, SavedRestores, AreSavedTeams, map_two, design_names, named_team, restored_floor, restored_team, saved_design}
-use Rattle.lf_state_restore.specs.Placed.{saved_entries, SavedEntriesFit as StackFits, OthersStay as CellsStay}
-use Rattle.lf_state_restore.proofs.ReportedTeams.{floor_reported}
-use Rattle.lf_state_restore.proofs.Framing.{all_due, last_due, last_restored, still_of_design, team_restored}
+use Rattle.lf_floor.specs.Saved.{MatchDesign, ShareDesign, IsRestoredFrom, IsStateText, RestoredIsCommitted, SavedRestores, AreSavedTeams, map_two, design_names, named_team, restored_floor, restored_team, saved_design}
+use Rattle.lf_floor.specs.Placed.{saved_entries, SavedEntriesFit as StackFits, OthersStay as CellsStay}
+use Rattle.lf_floor.proofs.ReportedTeams.{floor_reported}
+use Rattle.lf_floor.proofs.Framing.{all_due, last_due, last_restored, still_of_design, team_restored}
 use Rattle.lf_floor_verbs.specs.declared.tables.Tables.{Tables}
 use Rattle.lf_floor.specs.SavedStates.{HasNumbers, saved_teams_of, saved_team_of}
 use Rattle.lf_floor_verbs.specs.Tables.{AreTables, EntriesFit, HasRows, HasTeamRow, KeepsRooms, KeepsOtherTeams, table_cells, floor_in, frame_of, own_team, padding_of, revision_of, sites_in, teams_in}

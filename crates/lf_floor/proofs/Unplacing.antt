@@ -25,13 +25,13 @@ use Rattle.lf_floor_model.specs.States.{FloorState, TeamState}
 use Rattle.lf_floor_model.specs.Teams.{IsTeamOf}
 use Rattle.lf_floor_model.proofs.Kept.{sized_as}
 use Rattle.lf_floor_model.proofs.Openings.{opened_team}
-use Rattle.lf_state_restore.specs.Saved.{ShareDesign, fixed_cells, fixed_part}
-use Rattle.lf_state_restore.proofs.KeepingDesign.{committed_fixed}
-use Rattle.lf_state_restore.proofs.Placed.{fixed_same}
+use Rattle.lf_floor.specs.Saved.{ShareDesign, fixed_cells, fixed_part}
+use Rattle.lf_floor.proofs.KeepingDesign.{committed_fixed}
+use Rattle.lf_floor.proofs.Placed.{fixed_same}
 use Rattle.lf_floor_verbs.specs.declared.tables.Tables.{Tables}
 use Rattle.lf_floor_verbs.specs.Tables.{AreInitial, AreTables, EntriesFit, table_cells, floor_in, frame_of, own_team, teams_in}
 use Rattle.lf_floor.specs.StartUnplaced.{AreOfDesign, HaveSameCells, loaded_cells}
-use Rattle.lf_state_restore.proofs.Restoring.{names_alike, same_head, same_tail}
+use Rattle.lf_floor.proofs.Restoring.{names_alike, same_head, same_tail}
 use Rattle.lf_floor.proofs.Rows.{count_teams, each_team, opened_floor, opened_tables, replicate_each, team_at}
 
 -- ---- the cells of all teams

@@ -1,3 +1,5 @@
+pub mod Placed
+pub mod Saved
 pub mod StartUnplaced
 pub mod Entries
 pub mod Responses

@@ -6,8 +6,8 @@ use Rattle.lf_floor_model.specs.States.{TeamState}
 use Rattle.lf_state_text.specs.Designs.{NamedDesign}
 use Rattle.lf_placement.specs.Placements.{BoundsAt, working_places_of}
 use Rattle.lf_state_text.specs.Saved.{SavedTeam, moves_within, state_text}
-use Rattle.lf_state_restore.specs.Saved.{map_two, saved_cell}
-use Rattle.lf_state_restore.specs.Placed.{ArePlaced}
+use Rattle.lf_floor.specs.Saved.{map_two, saved_cell}
+use Rattle.lf_floor.specs.Placed.{ArePlaced}
 use Rattle.lf_floor_verbs.specs.declared.tables.Tables.{Tables}
 use Rattle.lf_floor_verbs.specs.Tables.{table_cells, frame_of, padding_of, revision_of, sites_in, teams_in}
 use Rattle.lf_sessions.specs.Slots.{slots_of}

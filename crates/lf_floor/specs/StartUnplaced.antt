@@ -3,7 +3,7 @@ use Rattle.std.specs.Prelude.{◌≡◌, ℕ, ◌+◌, [], None, length, map, re
 use Rattle.lf_floorplan.specs.declared.loaded.Loaded.{Loaded}
 use Rattle.lf_cells.specs.Cells.{Cells, cells_of}
 use Rattle.lf_cells.specs.Initial.{initial_cells, initial_components}
-use Rattle.lf_state_restore.specs.Saved.{fixed_part}
+use Rattle.lf_floor.specs.Saved.{fixed_part}
 use Rattle.lf_floor_verbs.specs.declared.tables.Tables.{Tables}
 use Rattle.lf_floor_verbs.specs.Tables.{frame_of, sites_in}
 

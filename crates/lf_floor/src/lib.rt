@@ -12,12 +12,22 @@
 //!
 //! `restore` brings a floor into the state of a state text. For large texts, `start_unplaced` makes
 //! a floor without placed cells, `read_state_chunks` reads the rows from the text in chunks, and
-//! `restore_saved` restores them.
+//! `restore_saved` restores them. Places are restored without the rules: `place_teams` sets the
+//! places of the cells of all teams, builds the strips once, and empties the lists of saved cells.
+//! `restore_entries` reverts the entries of a team on a list of its places, the newest first, and
+//! reserves room for the places before each entry. The entries are then the team's undo stack.
+//!
+//! The laws on saved floors connect this with state texts. A state text of a floor (`IsStateText`)
+//! restores that floor from any floor of its design (`restored`). With the journal written after
+//! it, the text is a backup.
 //!
 //! Used by most other crates.
 //!
 //! Modules, in reading order:
 //!
+//! - `restored_cells`: the cells of all teams are placed
+//! - `restored_entries`: the undo entries of a team are restored
+//! - `restoring_laws`: laws on saved floors
 //! - `floor`: the floor, its steps and runs
 //! - `cell_places`: the committed or the working places of all cells
 //! - `queries`: queries of teams by their numbers
@@ -43,6 +53,9 @@ mod floor;
 mod queries;
 mod response;
 mod restore;
+mod restored_cells;
+mod restored_entries;
+mod restoring_laws;
 mod snapshot;
 mod start_unplaced;
 mod state_view;
@@ -62,5 +75,8 @@ pub use lf_floor_model::{
     verb_keeps_team, verb_rows,
 };
 pub use response::Response;
+pub use restoring_laws::{
+    restored_is_committed, runs_keep_design, saved_restores, state_and_journal_restore,
+};
 pub use snapshot::StateSnapshot;
 pub use state_view::team_name;

@@ -2,7 +2,7 @@
 
 ghost use Rattle.std.specs.Prelude.{⊤};
 ghost use Rattle.lf_io.specs.Output.{PutsText};
-ghost use Rattle.lf_state_restore.specs.Saved.{IsStateText, design_names};
+ghost use Rattle.lf_floor.specs.Saved.{IsStateText, design_names};
 ghost use Rattle.lf_floor.specs.SavedStates.{state_text_of, saved_teams_of};
 ghost use Rattle.lf_floor_verbs.specs.Tables.{AreTables, floor_in};
 
@@ -35,7 +35,7 @@ impl<'a> Model for StateSnapshot<'a> {
     ghost use Rattle.std.specs.Prelude.{List};
     ghost use Rattle.lf_state_text.specs.Designs.{NamedDesign};
     ghost use Rattle.lf_state_text.specs.Saved.{SavedTeam};
-    ghost use Rattle.lf_state_restore.specs.Saved.{design_names};
+    ghost use Rattle.lf_floor.specs.Saved.{design_names};
     ghost use Rattle.lf_floor.specs.SavedStates.{saved_teams_of};
     ghost use Rattle.lf_floor_verbs.specs.Tables.{AreTables, floor_in};
 

@@ -2,7 +2,7 @@
 
 ghost use Rattle.std.specs.Prelude.{◌≡◌, IfOk, map, replicate};
 ghost use Rattle.lf_floor_model.specs.Designs.{initial_floor};
-ghost use Rattle.lf_state_restore.specs.Saved.{ShareDesign};
+ghost use Rattle.lf_floor.specs.Saved.{ShareDesign};
 ghost use Rattle.lf_floor.specs.StartUnplaced.{AreOfDesign, HaveSameCells, loaded_cells};
 
 use crate::floor::Floor;

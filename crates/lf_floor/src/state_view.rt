@@ -4,7 +4,7 @@ ghost use Rattle.std.specs.Prelude.{All, ◌≡◌, ◌≤◌, List, ℕ, length
 ghost use Rattle.lf_cells.specs.Cells.{cells_of};
 ghost use Rattle.lf_io.specs.Output.{PutsText};
 ghost use Rattle.lf_floor_model.specs.Teams.{team_names};
-ghost use Rattle.lf_state_restore.specs.Saved.{IsStateText, design_names, saved_cell};
+ghost use Rattle.lf_floor.specs.Saved.{IsStateText, design_names, saved_cell};
 ghost use Rattle.lf_state_text.specs.Designs.{named_team_of};
 ghost use Rattle.lf_state_text.specs.Saved.{IsSavedInRange, moves_within, saved_at, state_text};
 ghost use Rattle.lf_floor.specs.SavedStates.{saved_teams_of};
@@ -202,7 +202,7 @@ impl<'a> Model for StateView<'a> {
 
 impl<'a> DesignSchema for StateView<'a> {
     ghost use Rattle.lf_floor_verbs.specs.Tables.{floor_in};
-    ghost use Rattle.lf_state_restore.specs.Saved.{design_names};
+    ghost use Rattle.lf_floor.specs.Saved.{design_names};
 
     ghost named = { λ t. design_names (floor_in t) };
 

@@ -17,13 +17,13 @@ use Rattle.lf_def.specs.declared.components.Component.{Component}
 use Rattle.lf_def.specs.declared.components.PlacementClause.{PlacementClause}
 use Rattle.lf_def.specs.declared.components.PlacementKind.TheVariants.{Fixed, Cover, Placed, Unplaced}
 use Rattle.lf_def.specs.Kinds.{is_fixed, is_cover, is_movable}
-use Rattle.lf_frame_checks.specs.Loading.{macro_named, has_size, IsWholeSize, at_place}
+use Rattle.lf_frame.specs.Loading.{macro_named, has_size, IsWholeSize, at_place}
 use Rattle.lf_floorplan.specs.Sizes.{size_in_dbu}
-use Rattle.lf_frame_checks.specs.Refusals.{HasNoSize, HasPartUnits}
-use Rattle.lf_frame_checks.specs.Findings.{LoadInputs, units_in, core_in, Finding, OfCore, WhereWhole, OfPitch, CoreHasPartUnits, IsAccepted}
+use Rattle.lf_frame.specs.Refusals.{HasNoSize, HasPartUnits}
+use Rattle.lf_frame.specs.Findings.{LoadInputs, units_in, core_in, Finding, OfCore, WhereWhole, OfPitch, CoreHasPartUnits, IsAccepted}
 use Rattle.lf_frame.specs.Loads.{IsSizedIn, FixedIsSized, AreInRange}
-use Rattle.lf_frame_checks.proofs.CoreLemmas.{pitch_of_core, above}
-use Rattle.lf_frame_checks.proofs.Gathered.{none_of_name}
+use Rattle.lf_frame.proofs.CoreLemmas.{pitch_of_core, above}
+use Rattle.lf_frame.proofs.Gathered.{none_of_name}
 
 -- There is a core site.
 pub core_there : (i : LoadInputs) → IsAccepted i → IsSome (core_in i)

@@ -22,11 +22,11 @@ use Rattle.lf_floorplan.specs.declared.frame.Frame.{Frame}
 use Rattle.lf_floorplan.specs.declared.loaded.LoadedCell.{LoadedCell}
 use Rattle.lf_floorplan.specs.declared.loaded.Loaded.{Loaded}
 use Rattle.lf_def.specs.Kinds.{is_movable}
-use Rattle.lf_frame_claims.specs.Teams.{IsTeamOfComponent}
+use Rattle.lf_frame.specs.Teams.{IsTeamOfComponent}
 use Rattle.lf_floorplan.specs.Sizes.{size_in_dbu}
-use Rattle.lf_frame_claims.specs.Refusals.{HasEarlierName, IsClaimedTwice}
-use Rattle.lf_frame_checks.specs.Refusals.{HasBadStep, OverlapsEarlierRow, HasNoMacro, HasNoSize, HasPartUnits, IsComponentTooMany, EndsTooFar}
-use Rattle.lf_frame_checks.specs.Findings.{LoadInputs, units_in, core_in, Finding, NameOfFirst, FirstOf, OfCore, WhereWhole, OfPitch, CoreHasPartUnits, Finds}
+use Rattle.lf_frame.specs.ClaimRefusals.{HasEarlierName, IsClaimedTwice}
+use Rattle.lf_frame.specs.Refusals.{HasBadStep, OverlapsEarlierRow, HasNoMacro, HasNoSize, HasPartUnits, IsComponentTooMany, EndsTooFar}
+use Rattle.lf_frame.specs.Findings.{LoadInputs, units_in, core_in, Finding, NameOfFirst, FirstOf, OfCore, WhereWhole, OfPitch, CoreHasPartUnits, Finds}
 use Rattle.lf_frame.specs.Loads.{location, fixed_box, blocked, obstacles_in, movables_from, IsFrameOf, IsCellOf, IsLoadedFrom}
 use Rattle.lf_frame.specs.Alike.{without_movable_place, AreAlike, FindAlike, AcceptedAlike, RefusedAlike, LoadedAlike}
 use Rattle.lf_frame.proofs.AlikeEntries.{Same, SameAll, settled_without, name_same, mac_same, movable_same, name_alike, no_macro_respects, no_size_respects}

@@ -13,12 +13,12 @@ use Rattle.lf_def.specs.declared.components.PlacementKind.TheVariants.{Fixed, Co
 use Rattle.lf_def.specs.declared.components.Location.{Location}
 use Rattle.lf_def.specs.Laws.{without_places}
 use Rattle.lf_lef.specs.Contents.{Contents}
-use Rattle.lf_frame_claims.specs.Entries.{FirstIs}
+use Rattle.lf_frame.specs.Entries.{FirstIs}
 use Rattle.lf_def.specs.Kinds.{is_fixed_kind, is_cover_kind, has_kind, is_fixed, is_cover, is_movable}
-use Rattle.lf_frame_checks.specs.Loading.{at_place, macro_named, has_size, IsWholeSize}
-use Rattle.lf_frame_claims.specs.Refusals.{HasEarlierName, HasTwoFences, IsClaimedTwice}
-use Rattle.lf_frame_checks.specs.Refusals.{HasNoMacro, HasNoSize, HasPartUnits, IsComponentTooMany}
-use Rattle.lf_frame_checks.specs.Findings.{NameOfFirst}
+use Rattle.lf_frame.specs.Loading.{at_place, macro_named, has_size, IsWholeSize}
+use Rattle.lf_frame.specs.ClaimRefusals.{HasEarlierName, HasTwoFences, IsClaimedTwice}
+use Rattle.lf_frame.specs.Refusals.{HasNoMacro, HasNoSize, HasPartUnits, IsComponentTooMany}
+use Rattle.lf_frame.specs.Findings.{NameOfFirst}
 use Rattle.lf_frame.specs.Alike.{without_movable_place}
 use Rattle.lf_units.proofs.Any.{name_of_any, any_of_name}
 

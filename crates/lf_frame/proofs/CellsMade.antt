@@ -10,13 +10,13 @@ use Rattle.lf_def.specs.declared.regions.Region.{Region}
 use Rattle.lf_def.specs.declared.groups.Group.{Group}
 use Rattle.lf_def.specs.declared.components.Component.{Component}
 use Rattle.lf_floorplan.specs.declared.loaded.LoadedCell.{LoadedCell}
-use Rattle.lf_frame_claims.specs.Entries.{NoneBreaks}
-use Rattle.lf_frame_claims.specs.Refusals.{HasEarlierName, HasTwoFences}
-use Rattle.lf_frame_claims.specs.Teams.{IsTeamOfComponent}
-use Rattle.lf_frame_claims.specs.ClaimTables.{ClaimFacts, IsTableOf, FindsTeam}
+use Rattle.lf_frame.specs.Entries.{NoneBreaks}
+use Rattle.lf_frame.specs.ClaimRefusals.{HasEarlierName, HasTwoFences}
+use Rattle.lf_frame.specs.Teams.{IsTeamOfComponent}
+use Rattle.lf_frame.specs.ClaimTables.{ClaimFacts, IsTableOf, FindsTeam}
 use Rattle.lf_def.specs.Kinds.{is_movable}
-use Rattle.lf_frame_checks.specs.MacroTables.{macro_number_of, macros_of, macro_at}
-use Rattle.lf_frame_checks.specs.Findings.{LoadInputs}
+use Rattle.lf_frame.specs.MacroTables.{macro_number_of, macros_of, macro_at}
+use Rattle.lf_frame.specs.Findings.{LoadInputs}
 use Rattle.lf_frame.specs.Loads.{movables, movables_from, IsCellOf}
 
 -- The macro of a component is what the table of macros has at its number.

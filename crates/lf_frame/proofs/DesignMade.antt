@@ -27,15 +27,15 @@ use Rattle.lf_floorplan.specs.Bounds.{IsPrinted, IsDesignName}
 use Rattle.lf_floorplan.specs.Boxes.{IsSized}
 use Rattle.lf_floorplan.specs.Ground.{IsTeam}
 use Rattle.lf_floorplan.specs.Design.{IsCell, MakeDesign}
-use Rattle.lf_frame_claims.specs.Entries.{NoneBreaks}
+use Rattle.lf_frame.specs.Entries.{NoneBreaks}
 use Rattle.lf_def.specs.Kinds.{is_cover, is_fixed, is_movable}
-use Rattle.lf_frame_claims.specs.Teams.{fences, fence_names, IsTeamOfComponent}
-use Rattle.lf_frame_checks.specs.Loading.{macro_named}
-use Rattle.lf_frame_claims.specs.Refusals.{HasEarlierName, IsClaimedTwice}
-use Rattle.lf_frame_checks.specs.Refusals.{HasNoMacro, IsComponentTooMany}
-use Rattle.lf_frame_checks.specs.Findings.{LoadInputs, units_in, IsAccepted}
+use Rattle.lf_frame.specs.Teams.{fences, fence_names, IsTeamOfComponent}
+use Rattle.lf_frame.specs.Loading.{macro_named}
+use Rattle.lf_frame.specs.ClaimRefusals.{HasEarlierName, IsClaimedTwice}
+use Rattle.lf_frame.specs.Refusals.{HasNoMacro, IsComponentTooMany}
+use Rattle.lf_frame.specs.Findings.{LoadInputs, units_in, IsAccepted}
 use Rattle.lf_frame.specs.Loads.{IsSizedIn, AreInRange, IsFrameOf, movables, CanBeCell, IsCellOf}
-use Rattle.lf_frame_checks.proofs.Gathered.{none_of_name}
+use Rattle.lf_frame.proofs.Gathered.{none_of_name}
 use Rattle.lf_frame.proofs.Accepted.{first_nothing, macros_sized}
 
 -- A fact about each entry holds of the one that belongs to it.
@@ -82,7 +82,7 @@ known : (o : Option Macro) → (o ≡ None → ⊥) → IsSome o
 known None there = absurd (there refl)
 known (Some m) there = refl
 
-placed : (macros : List Macro) (place : Option ℕ) → IsSome (Rattle.lf_frame_checks.specs.Loading.at_place macros place) → IsSome place
+placed : (macros : List Macro) (place : Option ℕ) → IsSome (Rattle.lf_frame.specs.Loading.at_place macros place) → IsSome place
 placed macros None there = there
 placed macros (Some k) there = refl
 

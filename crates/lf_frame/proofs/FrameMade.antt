@@ -31,16 +31,16 @@ use Rattle.lf_floorplan.specs.Obstacles.{IsMacroBox, IsObstacle}
 use Rattle.lf_floorplan.specs.Rows.{row_area, IsPitch, IsCoreRow, RowsApart}
 use Rattle.lf_floorplan.specs.Fences.{IsFence, AreApart, FencesNamed, FencesApart}
 use Rattle.lf_floorplan.specs.Sizes.{turned, box_at, size_in_dbu}
-use Rattle.lf_frame_claims.specs.Entries.{NoneBreaks}
+use Rattle.lf_frame.specs.Entries.{NoneBreaks}
 use Rattle.lf_def.specs.Kinds.{is_fence, is_fixed}
-use Rattle.lf_frame_claims.specs.Teams.{fences}
-use Rattle.lf_frame_checks.specs.Loading.{at_place, is_core_row, frame_row, macro_named, has_size, IsWholeSize}
-use Rattle.lf_frame_checks.specs.Refusals.{IsSideways, OverlapsEarlierRow, EndsTooFar, HasEarlierFenceName, HasGroundName, SharePoint, OverlapsEarlierFence, IsRowTooMany}
-use Rattle.lf_frame_checks.specs.Refusals.{IsFenceTooMany}
-use Rattle.lf_frame_checks.specs.Findings.{LoadInputs, units_in, core_in, NameOfFirst, IsAccepted}
+use Rattle.lf_frame.specs.Teams.{fences}
+use Rattle.lf_frame.specs.Loading.{at_place, is_core_row, frame_row, macro_named, has_size, IsWholeSize}
+use Rattle.lf_frame.specs.Refusals.{IsSideways, OverlapsEarlierRow, EndsTooFar, HasEarlierFenceName, HasGroundName, SharePoint, OverlapsEarlierFence, IsRowTooMany}
+use Rattle.lf_frame.specs.Refusals.{IsFenceTooMany}
+use Rattle.lf_frame.specs.Findings.{LoadInputs, units_in, core_in, NameOfFirst, IsAccepted}
 use Rattle.lf_frame.specs.Loads.{frame_team, location, IsSizedIn, FixedIsSized, fixed_box, blocked, softly_blocked, obstacles_in, soft_in, AreInRange}
-use Rattle.lf_frame_checks.proofs.Gathered.{none_of_name, pairs_from_none, all_kept, pairs_kept, few_kept, all_filter_map, all_flat_map}
-use Rattle.lf_frame_checks.proofs.CoreLemmas.{pitch_of_core, core_row_is_core}
+use Rattle.lf_frame.proofs.Gathered.{none_of_name, pairs_from_none, all_kept, pairs_kept, few_kept, all_filter_map, all_flat_map}
+use Rattle.lf_frame.proofs.CoreLemmas.{pitch_of_core, core_row_is_core}
 use Rattle.lf_frame.proofs.Accepted.{of_core, of_pitch, first_nothing, fixed_sized}
 
 lef_length : (v : ℤ) → IsLengthInRange v → IsLefLength v

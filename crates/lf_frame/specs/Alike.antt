@@ -7,7 +7,7 @@ use Rattle.lf_def.specs.declared.components.Component.{Component}
 use Rattle.lf_def.specs.Laws.{placement_without_places, document_without_places}
 use Rattle.lf_def.specs.Kinds.{is_movable}
 use Rattle.lf_floorplan.specs.declared.loaded.Loaded.{Loaded}
-use Rattle.lf_frame_checks.specs.Findings.{LoadInputs, Finds, IsAccepted, IsLoadFault}
+use Rattle.lf_frame.specs.Findings.{LoadInputs, Finds, IsAccepted, IsLoadFault}
 use Rattle.lf_frame.specs.Loads.{IsLoadedFrom}
 
 -- The parts of a component that teams cannot change: all but the placement of a movable one. Its

@@ -21,10 +21,10 @@ use Rattle.lf_floorplan.specs.Bounds.{IsLimit}
 use Rattle.lf_floorplan.specs.Rows.{IsPitch}
 use Rattle.lf_floorplan.specs.Sizes.{turned, box_at, size_in_dbu}
 use Rattle.lf_def.specs.Kinds.{is_fixed, is_movable}
-use Rattle.lf_frame_claims.specs.Teams.{fences, IsTeamOfComponent}
-use Rattle.lf_frame_checks.specs.Loading.{macro_named, is_core_row, frame_row}
-use Rattle.lf_frame_claims.specs.Refusals.{HasTwoFences}
-use Rattle.lf_frame_checks.specs.Findings.{LoadInputs, units_in, core_in, IsAccepted}
+use Rattle.lf_frame.specs.Teams.{fences, IsTeamOfComponent}
+use Rattle.lf_frame.specs.Loading.{macro_named, is_core_row, frame_row}
+use Rattle.lf_frame.specs.ClaimRefusals.{HasTwoFences}
+use Rattle.lf_frame.specs.Findings.{LoadInputs, units_in, core_in, IsAccepted}
 
 -- The header of the document, with its database units per micron.
 abbrev pub header_in : LoadInputs → Header

@@ -5,19 +5,19 @@ ghost use Rattle.std.specs.List.{AllZip};
 ghost use Rattle.lf_def.specs.Ranges.{IsComponent};
 ghost use Rattle.lf_floorplan.specs.LoadedCells.{with_name};
 ghost use Rattle.lf_def.specs.Kinds.{is_movable as is_movable_component};
-ghost use Rattle.lf_frame_claims.specs.Teams.{fences, IsTeamOfComponent};
-ghost use Rattle.lf_frame_claims.specs.Entries.{NoneBreaks};
-ghost use Rattle.lf_frame_claims.specs.Refusals.{HasEarlierName};
-ghost use Rattle.lf_frame_claims.specs.ClaimTables.{IsTableOf};
-ghost use Rattle.lf_frame_checks.specs.Findings.{LoadInputs, inputs};
-ghost use Rattle.lf_frame_checks.specs.MacroTables.{macro_number_of, macros_of};
+ghost use Rattle.lf_frame.specs.Teams.{fences, IsTeamOfComponent};
+ghost use Rattle.lf_frame.specs.Entries.{NoneBreaks};
+ghost use Rattle.lf_frame.specs.ClaimRefusals.{HasEarlierName};
+ghost use Rattle.lf_frame.specs.ClaimTables.{IsTableOf};
+ghost use Rattle.lf_frame.specs.Findings.{LoadInputs, inputs};
+ghost use Rattle.lf_frame.specs.MacroTables.{macro_number_of, macros_of};
 ghost use Rattle.lf_frame.specs.Loads.{location as location_of, as_location, movables, CanBeCell, IsCellOf};
 
+use crate::component_claims::ClaimTable;
 use crate::convert::{location, place_at};
+use crate::macro_numbers::MacroTable;
 use lf_def::{Component, DefDoc, is_movable};
 use lf_floorplan::{Limits, LoadedCells, PackedPlace, Place, UnnamedCell};
-use lf_frame_checks::MacroTable;
-use lf_frame_claims::ClaimTable;
 use lf_lef::Library;
 use std::alloc::{AllocError, Global};
 

@@ -4,16 +4,17 @@ ghost use Rattle.std.specs.Prelude.{◌≡◌, ℕ, ◌++◌, ◌∷◌, [], tru
 ghost use Rattle.std.specs.Prelude.{filter_map, flat_map, unwrap_or, option_map};
 ghost use Rattle.lf_def.specs.Ranges.{IsDefCoordinate, IsRow, IsComponent, IsLocation};
 ghost use Rattle.lf_floorplan.specs.Sizes.{turned, box_at, size_in_dbu};
-ghost use Rattle.lf_frame_claims.specs.Teams.{fences};
-ghost use Rattle.lf_frame_checks.specs.Loading.{is_core_row as row_is_core, frame_row as frame_row_of};
+ghost use Rattle.lf_frame.specs.Teams.{fences};
+ghost use Rattle.lf_frame.specs.Loading.{is_core_row as row_is_core, frame_row as frame_row_of};
 ghost use Rattle.lf_frame.specs.Loads.{IsSizedIn, FixedIsSized, frame_team as frame_team_of, location as location_of};
 ghost use Rattle.lf_frame.specs.Loads.{as_location, fixed_box as fixed_box_of, blocked, softly_blocked};
 
+use crate::component_checks::macro_named;
+use crate::row_checks::is_core_row;
 use lf_def::{
     Blockage, Component, DocumentHeader, Location, Region, RowStatement, is_fence, is_fixed,
 };
 use lf_floorplan::{Header, Macro, Place, Row, Site, Team, macro_box};
-use lf_frame_checks::{is_core_row, macro_named};
 use lf_lef::Library;
 use lf_units::{Name, Rect, Sequence};
 use std::alloc::{AllocError, Global};

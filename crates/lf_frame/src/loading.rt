@@ -4,22 +4,23 @@ ghost use Rattle.std.specs.Prelude.{◌≡◌, ◌++◌, ◌⊎◌, IfOk, IfErr,
 ghost use Rattle.lf_lex.specs.declared.fault.ReadError.TheVariants.{Memory};
 ghost use Rattle.lf_lex.specs.Faults.{load_fault_of};
 ghost use Rattle.lf_floorplan.specs.Design.{MakeDesign};
-ghost use Rattle.lf_frame_claims.specs.ClaimTables.{IsTableOf};
-ghost use Rattle.lf_frame_checks.specs.Findings.{inputs, units_in, IsAccepted, IsLoadFault};
-ghost use Rattle.lf_frame_checks.specs.MacroTables.{macros_of};
+ghost use Rattle.lf_frame.specs.ClaimTables.{IsTableOf};
+ghost use Rattle.lf_frame.specs.Findings.{inputs, units_in, IsAccepted, IsLoadFault};
+ghost use Rattle.lf_frame.specs.MacroTables.{macros_of};
 ghost use Rattle.lf_frame.specs.Loads.{fixed_box, blocked, FixedIsSized, AreInRange, IsFrameOf, IsLoadedFrom};
 
+use crate::all_checks::first_finding;
 use crate::cells::movable_cells;
+use crate::component_claims::{ClaimTable, claim_table};
 use crate::convert::{
     copy_header, copy_macros, copy_site, core_rows, fence_teams, fixed_boxes, push_blockages,
     soft_rects,
 };
+use crate::findings::units_of;
+use crate::macro_numbers::{MacroTable, macro_table};
+use crate::pitch::{core_pitch, sized_core_site};
 use lf_def::DefDoc;
 use lf_floorplan::{Frame, Limits, Loaded, LoadedCells};
-use lf_frame_checks::{
-    MacroTable, core_pitch, first_finding, macro_table, sized_core_site, units_of,
-};
-use lf_frame_claims::{ClaimTable, claim_table};
 use lf_lef::Library;
 use lf_lex::{LoadFault, ReadError};
 use lf_units::{Rect, Sequence};

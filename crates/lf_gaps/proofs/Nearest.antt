@@ -5,16 +5,16 @@ use Rattle.std.proofs.lemmas.Int.{ints}
 use Rattle.std.proofs.lemmas.List.{get_or_default, get_or-take, get_or-drop, length-take, length-drop, take_more, take_all}
 use Rattle.std.proofs.lemmas.List.Elements.{All-cons, All-drop, All-nil}
 use Rattle.std.proofs.lemmas.List.Quantifiers.{Any-push}
-use Rattle.lf_spans.specs.declared.span.Span.{Span}
-use Rattle.lf_spans.specs.Spans.{IsFilled, LiesIn, LiesInOneOf, IsRising, IsMeetAll}
-use Rattle.lf_spans.specs.Steps.{AddsFilled, ContainsSpan}
-use Rattle.lf_spans.proofs.Anys.{any_cases, any_head, any_tail, any_left, any_nil, any_split, any_weaker, all_at}
-use Rattle.lf_spans.proofs.Edges.{InOne, in_of_lies, in_one_of_lies, rising_drop}
-use Rattle.lf_spans.proofs.Overlaps.{from_place}
-use Rattle.lf_spans.specs.declared.grid.SiteGrid.{SiteGrid}
+use Rattle.lf_units.specs.declared.span.Span.{Span}
+use Rattle.lf_units.specs.Spans.{IsFilled, LiesIn, LiesInOneOf, IsRising, IsMeetAll}
+use Rattle.lf_units.specs.Steps.{AddsFilled, ContainsSpan}
+use Rattle.lf_units.proofs.Anys.{any_cases, any_head, any_tail, any_left, any_nil, any_split, any_weaker, all_at}
+use Rattle.lf_units.proofs.SpanEdges.{InOne, in_of_lies, in_one_of_lies, rising_drop}
+use Rattle.lf_units.proofs.Overlaps.{from_place}
+use Rattle.lf_units.specs.declared.grid.SiteGrid.{SiteGrid}
 use Rattle.lf_gaps.specs.declared.gap_target.GapTarget.{GapTarget}
 use Rattle.lf_gaps.specs.declared.row.Target.{Target}
-use Rattle.lf_spans.specs.Grids.{FindsNearest, FitsSpan, IsBoundedSpan, IsNoFarther, LiesInSpanFrom, distance_to}
+use Rattle.lf_units.specs.Grids.{FindsNearest, FitsSpan, IsBoundedSpan, IsNoFarther, LiesInSpanFrom, distance_to}
 use Rattle.lf_gaps.specs.Gaps.{FindsGap, FitsOne, FitsRows}
 use Rattle.lf_gaps.specs.Steps.{AddsGap, IsNearestSoFar, IsNearerOf, IsPast}
 

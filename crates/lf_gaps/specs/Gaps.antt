@@ -1,8 +1,8 @@
 -- A width that fits one span of each of several lists.
 use Rattle.std.specs.Prelude.{ℤ, List, Option, All, Any}
-use Rattle.lf_spans.specs.declared.span.Span.{Span}
-use Rattle.lf_spans.specs.declared.grid.SiteGrid.{SiteGrid}
-use Rattle.lf_spans.specs.Grids.{FindsNearest, IsOnGrid, LiesInSpanFrom}
+use Rattle.lf_units.specs.declared.span.Span.{Span}
+use Rattle.lf_units.specs.declared.grid.SiteGrid.{SiteGrid}
+use Rattle.lf_units.specs.Grids.{FindsNearest, IsOnGrid, LiesInSpanFrom}
 use Rattle.lf_gaps.specs.declared.gap_target.GapTarget.{GapTarget}
 
 -- The width fits, at this grid number, one span of each list.

@@ -1,9 +1,9 @@
 -- Results of the steps of the search for the nearest gap.
 use Rattle.std.specs.Prelude.{◌≡◌, ℤ, pos, ◌+ℤ◌, ◌≤ℤ◌, ◌<ℤ◌, ◌<◌, ◌⊎◌, List, All, Option, IfSome, IsSomeAnd}
-use Rattle.lf_spans.specs.declared.span.Span.{Span}
-use Rattle.lf_spans.specs.declared.grid.SiteGrid.{SiteGrid}
-use Rattle.lf_spans.specs.Grids.{FindsNearest, FitsSpan, IsBounded, IsBoundedSpan, IsGrid, IsNoFarther, distance_to}
-use Rattle.lf_spans.specs.Spans.{IsRising}
+use Rattle.lf_units.specs.declared.span.Span.{Span}
+use Rattle.lf_units.specs.declared.grid.SiteGrid.{SiteGrid}
+use Rattle.lf_units.specs.Grids.{FindsNearest, FitsSpan, IsBounded, IsBoundedSpan, IsGrid, IsNoFarther, distance_to}
+use Rattle.lf_units.specs.Spans.{IsRising}
 use Rattle.lf_gaps.specs.declared.gap_target.GapTarget.{GapTarget}
 use Rattle.lf_gaps.specs.declared.row.Target.{Target}
 

@@ -1,12 +1,12 @@
 //! The nearest place in one gap, and the nearer of two places.
 
 ghost use Rattle.std.specs.Bool.{OnFalse, OnTrue};
-ghost use Rattle.lf_spans.specs.Grids.{FindsNearest, FitsSpan, IsBoundedSpan, IsNoFarther};
-ghost use Rattle.lf_spans.specs.Spans.{IsFilled};
+ghost use Rattle.lf_units.specs.Grids.{FindsNearest, FitsSpan, IsBoundedSpan, IsNoFarther};
+ghost use Rattle.lf_units.specs.Spans.{IsFilled};
 ghost use Rattle.lf_gaps.specs.Steps.{AddsGap, IsNearerOf};
 
 use crate::gap_target::GapTarget;
-use lf_spans::{Span, nearest_fit};
+use lf_units::{Span, nearest_fit};
 
 /// Returns whether the first number is nearer to the target than the second, or equally near and
 /// less or equal.

@@ -1,9 +1,9 @@
 //! A width that is to be placed near a number.
 
 ghost use Rattle.std.specs.Prelude.{◌<ℤ◌, pos};
-ghost use Rattle.lf_spans.specs.Grids.{IsBounded, IsGrid};
+ghost use Rattle.lf_units.specs.Grids.{IsBounded, IsGrid};
 
-use lf_spans::SiteGrid;
+use lf_units::SiteGrid;
 
 /// A width, the grid of its left ends, and the number that its left end should be near. All are
 /// within 2^40 of 0, in database units. The width and the grid's step are above 0.

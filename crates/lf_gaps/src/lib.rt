@@ -1,7 +1,7 @@
 //! The place nearest to a target at which a width fits one span of each of several lists.
 //!
 //! This places a cell on several rows: each list has the free spans of one row. Spans, rising lists
-//! and grids are those of `lf_spans`.
+//! and grids are those of `lf_units`.
 //!
 //! Used by `lf_occupancy` and `lf_legalize`.
 //!

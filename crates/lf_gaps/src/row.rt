@@ -1,13 +1,13 @@
 //! The nearest grid number at which a width fits one span of each of several lists.
 
 ghost use Rattle.std.specs.Prelude.{◌≡◌, ◌<◌, ◌≤ℤ◌, ◌<ℤ◌, ◌↔◌, All, IfOk, IsTrue, length, map, pos};
-ghost use Rattle.lf_spans.specs.Grids.{FindsNearest, FitsSpan, IsBounded, IsBoundedSpan, IsGrid};
-ghost use Rattle.lf_spans.specs.Spans.{IsMeetAll, IsRising};
+ghost use Rattle.lf_units.specs.Grids.{FindsNearest, FitsSpan, IsBounded, IsBoundedSpan, IsGrid};
+ghost use Rattle.lf_units.specs.Spans.{IsMeetAll, IsRising};
 ghost use Rattle.lf_gaps.specs.Gaps.{FitsOne, FitsRows};
 ghost use Rattle.lf_gaps.specs.Steps.{IsGapSearch, IsNearestSoFar, IsPast, IsWanted};
 
 use crate::gap::nearer_of;
-use lf_spans::{SiteGrid, Span, nearest_fit, spans_meet_all};
+use lf_units::{SiteGrid, Span, nearest_fit, spans_meet_all};
 use std::alloc::{AllocError, Global};
 
 /// The width that a gap must have, and the target.

@@ -4,11 +4,11 @@ ghost use Rattle.std.specs.Prelude.{◌<◌, length};
 ghost use Rattle.lf_wire_length.specs.Bounds.{IsPinOffset};
 
 use crate::movable::MovableCells;
+use crate::nets_on_board::{BoardNets, BoardPin, BoardPoint, OrientedOffsets};
 use lf_cells::CellId;
 use lf_floorplan::Place;
 use lf_orient::Orient;
 use lf_placement::Placement;
-use lf_wire_board::{BoardNets, BoardPin, BoardPoint, OrientedOffsets};
 use lf_wire_length::{HalfPoint, Netlist, PinOffset, PinRow, point_of_cell_pin};
 use std::alloc::{AllocError, Global};
 

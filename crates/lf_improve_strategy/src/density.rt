@@ -1,13 +1,13 @@
 //! The bins that must not become too full: squares of five rows' height, as those of a density
 //! report.
 
+use crate::bins::{BinBox, Bins};
 use lf_cells::CellId;
 use lf_floorplan::Row;
-use lf_frame_index::Strip;
 use lf_orient::Orient;
 use lf_placement::Placement;
+use lf_segments::Strip;
 use lf_units::Point;
-use lf_wire_board::{BinBox, Bins};
 use std::alloc::{AllocError, Global};
 
 /// The number of rows in the height of a bin.

@@ -1,14 +1,14 @@
 //! The edits of a team.
 
 use crate::board_nets::{NetSource, board_nets};
+use crate::cells::CellPlace;
 use crate::density::bins_below;
 use crate::movable::{MovableCells, movable_cells, place_of};
+use crate::rounds::{ImproveOptions, ImproveSearch, improved_places};
 use lf_placement::Placement;
 use lf_repair_strategy::{
     CellEdit, CellMove, MoveList, PaddedTeam, bands_of, width_of, with_moves,
 };
-use lf_wire_board::CellPlace;
-use lf_wire_improver::{ImproveOptions, ImproveSearch, improved_places};
 use lf_wire_length::{Netlist, TeamNets};
 use std::alloc::{AllocError, Global};
 

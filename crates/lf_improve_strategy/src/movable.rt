@@ -1,12 +1,12 @@
 //! The cells that may move, and their free sites.
 
+use crate::cells::{CellPlace, ImprovableCell, Orientations, RowOrientations};
 use lf_cells::CellId;
 use lf_floorplan::{Frame, Macro, Place};
 use lf_orient::Orient;
 use lf_placement::Placement;
 use lf_repair_planner::{FreeRows, FreeSpan, RowKind};
 use lf_repair_strategy::{PaddedTeam, fits_on, free_rows_without, width_of};
-use lf_wire_board::{CellPlace, ImprovableCell, Orientations, RowOrientations};
 use std::alloc::{AllocError, Global};
 
 /// Marks a cell that may not move, in place of its position in a list of cells.

@@ -10,8 +10,8 @@ use Rattle.lf_def.specs.declared.groups.Group.{Group}
 use Rattle.lf_def.specs.declared.components.Component.{Component}
 use Rattle.lf_def.specs.declared.components.Location.{Location}
 use Rattle.lf_floorplan.specs.declared.loaded.LoadedCell.{LoadedCell}
-use Rattle.lf_frame_claims.specs.Teams.{IsTeamOfComponent}
-use Rattle.lf_frame_checks.specs.Findings.{LoadInputs, Finds}
+use Rattle.lf_frame.specs.Teams.{IsTeamOfComponent}
+use Rattle.lf_frame.specs.Findings.{LoadInputs, Finds}
 use Rattle.lf_frame.specs.Loads.{location, movables, as_location, IsFrameOf, IsCellOf}
 use Rattle.lf_frame.specs.Alike.{without_movable_place}
 use Rattle.lf_frame.proofs.AlikeEntries.{Same, SameAll, name_same, mac_same}

@@ -17,8 +17,8 @@ use Rattle.lf_floorplan.specs.Bounds.{IsDefRect, IsLimit, IsLefSize}
 use Rattle.lf_floorplan.specs.Obstacles.{IsObstacle}
 use Rattle.lf_floorplan.specs.Rows.{IsPitch, IsCoreRow, RowsApart}
 use Rattle.lf_floorplan.specs.Fences.{IsFence, FencesNamed, FencesApart}
-use Rattle.lf_frame_checks.specs.Loading.{is_core_row, frame_row}
-use Rattle.lf_frame_checks.specs.Findings.{LoadInputs}
+use Rattle.lf_frame.specs.Loading.{is_core_row, frame_row}
+use Rattle.lf_frame.specs.Findings.{LoadInputs}
 use Rattle.lf_frame.specs.Loads.{IsFrameOf}
 
 -- The fields of a frame, without the proofs about them.

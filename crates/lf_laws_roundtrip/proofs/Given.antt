@@ -12,7 +12,7 @@ use Rattle.lf_def.specs.declared.components.PlacementClause.{PlacementClause}
 use Rattle.lf_def.specs.declared.components.PlacementKind.{PlacementKind}
 use Rattle.lf_def.specs.declared.components.PlacementKind.TheVariants.{Fixed, Cover, Placed, Unplaced}
 use Rattle.lf_def.specs.Kinds.{is_movable}
-use Rattle.lf_frame_checks.specs.Findings.{LoadInputs}
+use Rattle.lf_frame.specs.Findings.{LoadInputs}
 use Rattle.lf_frame.specs.Loads.{movables, movables_from, IsCellOf, IsLoadedFrom}
 use Rattle.lf_write.specs.Export.{IsMovable, PositionsRise}
 use Rattle.lf_laws_roundtrip.specs.Exports.{AreForCells, LoadedIsExportable}

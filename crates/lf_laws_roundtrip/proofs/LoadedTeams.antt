@@ -20,8 +20,8 @@ use Rattle.lf_floorplan.specs.declared.loaded.Loaded.{Loaded}
 use Rattle.lf_floorplan.specs.Boxes.{macro_of, no_macro}
 use Rattle.lf_cells.specs.declared.cell.Cell.{Cell}
 use Rattle.lf_def.specs.Kinds.{is_fence, is_movable}
-use Rattle.lf_frame_claims.specs.Teams.{fences, fence_names, Claims, IsTeamOfComponent}
-use Rattle.lf_frame_checks.specs.Findings.{LoadInputs}
+use Rattle.lf_frame.specs.Teams.{fences, fence_names, Claims, IsTeamOfComponent}
+use Rattle.lf_frame.specs.Findings.{LoadInputs}
 use Rattle.lf_frame.specs.Loads.{frame_team, header_in, movables, IsFrameOf, IsCellOf, IsLoadedFrom}
 use Rattle.lf_laws_roundtrip.specs.Spelled.{IsSpelledName, IsSpelledHeader, IsSpelledCell, CanBeBound, IsSpelledTeam}
 use Rattle.lf_laws_roundtrip.specs.ReadDocuments.{IsSpelledComponent, IsBindable, IsSpelledDocument}

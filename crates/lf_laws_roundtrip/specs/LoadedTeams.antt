@@ -8,7 +8,7 @@ use Rattle.lf_floorplan.specs.declared.loaded.LoadedCell.{LoadedCell}
 use Rattle.lf_floorplan.specs.declared.loaded.Loaded.{Loaded}
 use Rattle.lf_cells.specs.declared.cell.Cell.{Cell}
 use Rattle.lf_cells.specs.Initial.{own_cells}
-use Rattle.lf_frame_checks.specs.Findings.{LoadInputs}
+use Rattle.lf_frame.specs.Findings.{LoadInputs}
 use Rattle.lf_frame.specs.Loads.{as_location, IsLoadedFrom}
 use Rattle.lf_team_def.specs.TeamText.{team_text}
 use Rattle.lf_laws_roundtrip.specs.TeamDocument.{team_document}

@@ -6,7 +6,7 @@ use Rattle.lf_def.specs.Laws.{document_without_places}
 use Rattle.lf_floorplan.specs.declared.frame.Frame.{Frame}
 use Rattle.lf_floorplan.specs.declared.loaded.LoadedCell.{LoadedCell}
 use Rattle.lf_floorplan.specs.declared.loaded.Loaded.{Loaded}
-use Rattle.lf_frame_checks.specs.Findings.{LoadInputs, IsAccepted}
+use Rattle.lf_frame.specs.Findings.{LoadInputs, IsAccepted}
 use Rattle.lf_frame.specs.Loads.{location, movables, as_location, IsFrameOf, IsLoadedFrom}
 use Rattle.lf_frame.specs.Alike.{without_movable_place}
 

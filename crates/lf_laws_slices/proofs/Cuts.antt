@@ -18,7 +18,7 @@ use Rattle.lf_def.specs.declared.components.Component.{Component}
 use Rattle.lf_def.specs.declared.components.Location.{Location}
 use Rattle.lf_def.specs.declared.rows.RowStatement.{RowStatement as DefRow}
 use Rattle.lf_def.specs.Kinds.{is_movable}
-use Rattle.lf_frame_claims.specs.Teams.{IsTeamOfComponent}
+use Rattle.lf_frame.specs.Teams.{IsTeamOfComponent}
 use Rattle.lf_floorplan.specs.declared.frame.Frame.{Frame}
 use Rattle.lf_floorplan.specs.declared.loaded.LoadedCell.{LoadedCell}
 use Rattle.lf_floorplan.specs.declared.loaded.Loaded.{Loaded}
@@ -28,8 +28,8 @@ use Rattle.lf_floorplan.specs.declared.place.Place.{Place}
 use Rattle.lf_floorplan.specs.declared.sites.Site.{Site}
 use Rattle.lf_floorplan.specs.Boxes.{macro_of, no_macro}
 use Rattle.lf_floorplan.specs.Rows.{IsPitch}
-use Rattle.lf_frame_checks.specs.Loading.{at_place, macro_named, is_core_row, frame_row}
-use Rattle.lf_frame_checks.specs.Findings.{LoadInputs}
+use Rattle.lf_frame.specs.Loading.{at_place, macro_named, is_core_row, frame_row}
+use Rattle.lf_frame.specs.Findings.{LoadInputs}
 use Rattle.lf_frame.specs.Loads.{location, as_location, movables_from, IsFrameOf, IsCellOf, IsLoadedFrom, obstacles_in, soft_in}
 use Rattle.lf_cells.specs.Initial.{initial_cell, own_cells}
 use Rattle.lf_floor_model.specs.Teams.{team_number}

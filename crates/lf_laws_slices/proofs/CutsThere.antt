@@ -11,9 +11,9 @@ use Rattle.lf_lef.specs.Contents.{Contents}
 use Rattle.lf_def.specs.Kinds.{is_fixed, is_cover, is_movable}
 use Rattle.lf_floorplan.specs.declared.loaded.LoadedCell.{LoadedCell}
 use Rattle.lf_floorplan.specs.declared.loaded.Loaded.{Loaded}
-use Rattle.lf_frame_claims.specs.Teams.{IsTeamOfComponent}
-use Rattle.lf_frame_checks.specs.Loading.{macro_named}
-use Rattle.lf_frame_checks.specs.Findings.{LoadInputs, units_in}
+use Rattle.lf_frame.specs.Teams.{IsTeamOfComponent}
+use Rattle.lf_frame.specs.Loading.{macro_named}
+use Rattle.lf_frame.specs.Findings.{LoadInputs, units_in}
 use Rattle.lf_frame.specs.Loads.{fixed_box, blocked, obstacles_in, IsLoadedFrom}
 use Rattle.lf_floor_model.proofs.Parts.{taken, passed}
 use Rattle.lf_laws_slices.specs.Cuts.{IsOwn, AreSameComponents, IsCutFrom, without_others}

@@ -10,7 +10,7 @@ use Rattle.lf_floorplan.specs.declared.parts.Header.{Header}
 use Rattle.lf_floorplan.specs.declared.parts.Team.{Team}
 use Rattle.lf_floorplan.specs.declared.place.Place.{Place}
 use Rattle.lf_floorplan.specs.Boxes.{IsSized, macro_of}
-use Rattle.lf_rtree.specs.declared.placed.Placed.{Placed}
+use Rattle.lf_units.specs.declared.placed.Placed.{Placed}
 use Rattle.lf_rules.specs.declared.rule.Broken.{Broken}
 use Rattle.lf_rules.specs.declared.rule.Rule.{Rule}
 use Rattle.lf_rules.specs.declared.report_types.Listed.{Listed}

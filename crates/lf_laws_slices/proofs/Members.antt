@@ -8,7 +8,7 @@ use Rattle.lf_floorplan.specs.declared.frame.Frame.{Frame}
 use Rattle.lf_floorplan.specs.declared.macros.Macro.{Macro}
 use Rattle.lf_floorplan.specs.Boxes.{IsSized, macro_of, size_of}
 use Rattle.lf_floorplan.specs.Sizes.{turned, box_at}
-use Rattle.lf_rtree.specs.declared.placed.Placed.{Placed}
+use Rattle.lf_units.specs.declared.placed.Placed.{Placed}
 use Rattle.lf_rules.specs.Choice.{SpotPlace, PlacementQuery}
 use Rattle.lf_rules.specs.Team.{Member, box_in, with_box, boxes_from, boxes_beside, query_from}
 use Rattle.lf_laws_slices.specs.Alike.{AreFramesAlike}

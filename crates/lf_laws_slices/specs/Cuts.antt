@@ -4,10 +4,10 @@ use Rattle.std.specs.Prelude.{◌≡◌, ℕ, Bool, not, ◌||◌, List, All, De
 use Rattle.std.specs.List.{AllZip}
 use Rattle.lf_def.specs.declared.components.Component.{Component}
 use Rattle.lf_def.specs.Kinds.{is_movable}
-use Rattle.lf_frame_claims.specs.Teams.{fences, IsTeamOfComponent}
+use Rattle.lf_frame.specs.Teams.{fences, IsTeamOfComponent}
 use Rattle.lf_floorplan.specs.declared.loaded.Loaded.{Loaded}
-use Rattle.lf_frame_checks.specs.Loading.{macro_named}
-use Rattle.lf_frame_checks.specs.Findings.{LoadInputs, core_in}
+use Rattle.lf_frame.specs.Loading.{macro_named}
+use Rattle.lf_frame.specs.Findings.{LoadInputs, core_in}
 use Rattle.lf_frame.specs.Loads.{header_in, frame_team, location, obstacles_in, soft_in, IsLoadedFrom}
 use Rattle.lf_floor_model.specs.Teams.{team_number}
 use Rattle.lf_laws_slices.specs.Alike.{AreSameRects, AreDesignsAlike}

@@ -5,7 +5,7 @@ use Rattle.std.specs.Prelude.{slice_get, option_map}
 use Rattle.std.proofs.lemmas.List.{drop_more}
 use Rattle.std.proofs.lemmas.Option.{slice_get-get_or}
 use Rattle.lf_floorplan.specs.declared.frame.Frame.{Frame}
-use Rattle.lf_rtree.specs.declared.placed.Placed.{Placed}
+use Rattle.lf_units.specs.declared.placed.Placed.{Placed}
 use Rattle.lf_rules.specs.Choice.{SpotPlace, spot_of}
 use Rattle.lf_rules.specs.Team.{box_in, with_box, boxes_from}
 use Rattle.lf_cells.specs.declared.cell.Cell.{Cell}

@@ -17,7 +17,7 @@ use Rattle.lf_rules.specs.declared.rule.Rule.TheVariants.{Height, Row as RowRule
 use Rattle.lf_rules.specs.Legality.{Holds}
 use Rattle.lf_rules.specs.Choice.{SpotPlace, PlacementQuery, IsLegalAt, IsAllowedPlace, IsChoice, Precedes, distance, candidate_at}
 use Rattle.lf_rules.proofs.SiteLemmas.{legal_upright}
-use Rattle.lf_frame_index.specs.Indexes.{IsInside, IsExtentOf}
+use Rattle.lf_segments.specs.Indexes.{IsInside, IsExtentOf}
 use Rattle.lf_legalize.specs.Extents.{IsNearestPoint, IsNearDefPoint, IsWithin}
 use Rattle.lf_legalize.specs.Indexes.{IsHeightOf}
 use Rattle.lf_legalize.proofs.Rounds.{upright_size}

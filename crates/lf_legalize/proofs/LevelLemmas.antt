@@ -9,10 +9,10 @@ use Rattle.std.proofs.lemmas.List.Elements.{All-head, All-tail, All-append, All-
 use Rattle.std.proofs.lemmas.List.Kept.{AllPairs-cons}
 use Rattle.lf_units.proofs.Any.{any_mapped}
 use Rattle.lf_orient.specs.Orientation.{rail_below}
-use Rattle.lf_spans.specs.declared.span.Span.{Span}
-use Rattle.lf_spans.specs.Spans.{HoldsNumber, IsFilled, IsRising, LiesIn, LiesInOneOf}
-use Rattle.lf_spans.proofs.Anys.{any_nil, any_head, any_tail, any_left, any_split, any_weaker}
-use Rattle.lf_spans.proofs.Edges.{rising_nil, rising_tail, rising_after}
+use Rattle.lf_units.specs.declared.span.Span.{Span}
+use Rattle.lf_units.specs.Spans.{HoldsNumber, IsFilled, IsRising, LiesIn, LiesInOneOf}
+use Rattle.lf_units.proofs.Anys.{any_nil, any_head, any_tail, any_left, any_split, any_weaker}
+use Rattle.lf_units.proofs.SpanEdges.{rising_nil, rising_tail, rising_after}
 use Rattle.lf_floorplan.specs.declared.frame.Frame.{Frame}
 use Rattle.lf_floorplan.specs.declared.parts.Row.{Row}
 use Rattle.lf_floorplan.specs.Rows.{row_area}
@@ -20,10 +20,10 @@ use Rattle.lf_floorplan.specs.RowSupport.{rail_alternated}
 use Rattle.lf_segments.specs.declared.segment.Segment.{Segment}
 use Rattle.lf_segments.specs.Segments.{IsCut, IsOf, IsOpen, IsSegment, LiesInSegment}
 use Rattle.lf_cells.specs.declared.cell.CellId.{CellId}
-use Rattle.lf_frame_index.specs.declared.strip.Strip.{Strip}
+use Rattle.lf_segments.specs.declared.strip.Strip.{Strip}
 use Rattle.lf_occupancy.specs.Views.{Occupied, IsFreeOver, IsStripOf}
-use Rattle.lf_frame_index.specs.Indexes.{IsIndexOf}
-use Rattle.lf_frame_index.specs.Strips.{strip_of}
+use Rattle.lf_segments.specs.Indexes.{IsIndexOf}
+use Rattle.lf_segments.specs.Strips.{strip_of}
 use Rattle.lf_legalize.specs.declared.row_search.RowSearch.{RowSearch}
 use Rattle.lf_legalize.specs.RowSearches.{padding_in}
 use Rattle.lf_legalize.specs.Levels.{AddsLevel, AreFreeOn, AreLevels, HasBareLevel, IsFreeOnOne, IsFreeOnRow, IsLevel, IsLevelRow, AreOpenInRow, IsRailed}

@@ -4,7 +4,7 @@ use Rattle.std.proofs.Common.{◌-ℤ◌, ◌≤ℤ◌, arith, refl, sym, ap, �
 use Rattle.std.specs.Prelude.{unsigned_abs, IfSome}
 use Rattle.std.proofs.lemmas.Int.{ints}
 use Rattle.lf_units.specs.declared.geometry.Point.{Point}
-use Rattle.lf_spans.specs.declared.span.Span.{Span}
+use Rattle.lf_units.specs.declared.span.Span.{Span}
 use Rattle.lf_floorplan.specs.declared.frame.Frame.{Frame}
 use Rattle.lf_floorplan.specs.declared.parts.Row.{Row}
 use Rattle.lf_floorplan.specs.Boxes.{macro_of}
@@ -16,8 +16,8 @@ use Rattle.lf_rules.specs.Choice.{SpotPlace, PlacementQuery, IsAllowedPlace, Pre
 use Rattle.lf_rules.specs.Scanning.{ScansPlaces, IsAsGood}
 use Rattle.lf_rules.proofs.Looking.{taken_first, taken, left}
 use Rattle.lf_rules.proofs.Order.{through}
-use Rattle.lf_frame_index.specs.declared.rows_by_y.RowEntry.{RowEntry}
-use Rattle.lf_frame_index.specs.RowsByY.{IsEntryOf}
+use Rattle.lf_segments.specs.declared.rows_by_y.RowEntry.{RowEntry}
+use Rattle.lf_segments.specs.RowsByY.{IsEntryOf}
 use Rattle.lf_legalize.specs.Extents.{IsWithin, IsOnRow, IsBetter, ScansPlacesWithin, search_limit}
 use Rattle.lf_legalize.specs.RowSearches.{IsOnRowIn, IsBestAmong, IsChoiceAmong}
 use Rattle.lf_legalize.specs.declared.row_search.RowSearch.{RowSearch}

@@ -20,8 +20,8 @@ use Rattle.lf_rules.specs.Choice.{SpotPlace, PlacementQuery, IsLegalAt, IsAllowe
 use Rattle.lf_rules.proofs.Looking.{onward}
 use Rattle.lf_rules.proofs.Order.{compared}
 use Rattle.lf_rules.proofs.SiteLemmas.{OneOfFour, legal_upright, rank_decides}
-use Rattle.lf_frame_index.specs.declared.rows_by_y.RowEntry.{RowEntry}
-use Rattle.lf_frame_index.specs.RowsByY.{IsRowsByY, IsRunBetween, RunBetweenHasRows}
+use Rattle.lf_segments.specs.declared.rows_by_y.RowEntry.{RowEntry}
+use Rattle.lf_segments.specs.RowsByY.{IsRowsByY, IsRunBetween, RunBetweenHasRows}
 use Rattle.lf_legalize.specs.Extents.{IsWithin, IsOnEntries, IsOnRow, ScansPlacesWithin}
 use Rattle.lf_legalize.specs.RowSearches.{IsBestAmong, IsChoiceAmong, query_of_search}
 use Rattle.lf_legalize.specs.declared.row_search.RowSearch.{RowSearch}

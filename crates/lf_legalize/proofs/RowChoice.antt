@@ -7,13 +7,13 @@ use Rattle.std.proofs.lemmas.List.{get_or-map, get_or_default, length-map}
 use Rattle.std.proofs.lemmas.List.Elements.{All-cons, All-nil}
 use Rattle.lf_units.specs.declared.geometry.Point.{Point}
 use Rattle.lf_orient.specs.declared.Orient.{Orient}
-use Rattle.lf_spans.specs.declared.grid.SiteGrid.{SiteGrid}
-use Rattle.lf_spans.specs.declared.span.Span.{Span}
-use Rattle.lf_spans.specs.Spans.{LiesIn, LiesInOneOf}
-use Rattle.lf_spans.specs.Grids.{FindsNearest, IsBounded, IsBoundedSpan, IsGrid, IsNearest, IsNoFarther, LiesInSpanFrom, grid_of}
-use Rattle.lf_spans.specs.Steps.{ContainsSpan}
-use Rattle.lf_spans.proofs.Anys.{any_nil, any_weaker}
-use Rattle.lf_spans.proofs.Edges.{in_of_lies}
+use Rattle.lf_units.specs.declared.grid.SiteGrid.{SiteGrid}
+use Rattle.lf_units.specs.declared.span.Span.{Span}
+use Rattle.lf_units.specs.Spans.{LiesIn, LiesInOneOf}
+use Rattle.lf_units.specs.Grids.{FindsNearest, IsBounded, IsBoundedSpan, IsGrid, IsNearest, IsNoFarther, LiesInSpanFrom, grid_of}
+use Rattle.lf_units.specs.Steps.{ContainsSpan}
+use Rattle.lf_units.proofs.Anys.{any_nil, any_weaker}
+use Rattle.lf_units.proofs.SpanEdges.{in_of_lies}
 use Rattle.lf_floorplan.specs.declared.parts.Row.{Row}
 use Rattle.lf_floorplan.specs.Bounds.{IsDefNumber}
 use Rattle.lf_floorplan.specs.Rows.{row_area}

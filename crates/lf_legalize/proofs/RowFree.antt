@@ -11,10 +11,10 @@ use Rattle.lf_units.specs.declared.geometry.Rect.{Rect}
 use Rattle.lf_units.specs.Area.{Covers, SharesPoint}
 use Rattle.lf_orient.specs.declared.Orient.{Orient}
 use Rattle.lf_orient.specs.Orientation.{rail_below, is_allowed, EqualUnder}
-use Rattle.lf_spans.specs.declared.span.Span.{Span}
-use Rattle.lf_spans.specs.Spans.{HoldsNumber, LiesIn, LiesInOneOf}
-use Rattle.lf_spans.specs.Grids.{IsOnGrid, LiesInSpanFrom, grid_of}
-use Rattle.lf_spans.proofs.Anys.{any_weaker}
+use Rattle.lf_units.specs.declared.span.Span.{Span}
+use Rattle.lf_units.specs.Spans.{HoldsNumber, LiesIn, LiesInOneOf}
+use Rattle.lf_units.specs.Grids.{IsOnGrid, LiesInSpanFrom, grid_of}
+use Rattle.lf_units.proofs.Anys.{any_weaker}
 use Rattle.lf_floorplan.specs.declared.frame.Frame.{Frame}
 use Rattle.lf_floorplan.specs.declared.parts.Row.{Row}
 use Rattle.lf_floorplan.specs.Rows.{row_area}
@@ -33,9 +33,9 @@ use Rattle.lf_rules.proofs.BesideLemmas.{beside_hold}
 use Rattle.lf_rules.proofs.LegalParts.{frame_kept, legal_by_parts}
 use Rattle.lf_rules.proofs.SiteLemmas.{one_of_four}
 use Rattle.lf_cells.specs.Cells.{cells_of}
-use Rattle.lf_frame_index.specs.declared.strip.Strip.{Strip}
+use Rattle.lf_segments.specs.declared.strip.Strip.{Strip}
 use Rattle.lf_occupancy.specs.Views.{IsFreeOver, IsOther, IsStripOf}
-use Rattle.lf_frame_index.specs.Strips.{IsNear, row_y, strip_of}
+use Rattle.lf_segments.specs.Strips.{IsNear, row_y, strip_of}
 use Rattle.lf_occupancy.specs.Floorplans.{IsOccupancyOf}
 use Rattle.lf_legalize.specs.declared.row_search.RowSearch.{RowSearch}
 use Rattle.lf_legalize.specs.Members.{member_of}

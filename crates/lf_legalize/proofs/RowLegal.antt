@@ -13,9 +13,9 @@ use Rattle.lf_units.specs.Area.{Covers, SharesPoint}
 use Rattle.lf_orient.specs.declared.Orient.{Orient}
 use Rattle.lf_orient.specs.declared.Rail.{Rail}
 use Rattle.lf_orient.specs.Orientation.{rail_below}
-use Rattle.lf_spans.specs.declared.span.Span.{Span}
-use Rattle.lf_spans.specs.Spans.{HoldsNumber, IsDisjointFrom, IsFilled, LiesIn, LiesInOneOf}
-use Rattle.lf_spans.proofs.Anys.{any_weaker}
+use Rattle.lf_units.specs.declared.span.Span.{Span}
+use Rattle.lf_units.specs.Spans.{HoldsNumber, IsDisjointFrom, IsFilled, LiesIn, LiesInOneOf}
+use Rattle.lf_units.proofs.Anys.{any_weaker}
 use Rattle.lf_floorplan.specs.declared.frame.Frame.{Frame}
 use Rattle.lf_floorplan.specs.declared.parts.Row.{Row}
 use Rattle.lf_floorplan.specs.declared.place.Place.{Place}
@@ -25,7 +25,7 @@ use Rattle.lf_floorplan.specs.Ground.{StaysInGround, IsClear, OverlapsSoft}
 use Rattle.lf_floorplan.specs.RowSupport.{Supports, IsBottomRow, IsSitesHigh, RestsOnRows, rail_alternated}
 use Rattle.lf_segments.specs.declared.segment.Segment.{Segment}
 use Rattle.lf_segments.specs.Segments.{IsOf, LiesInSegment}
-use Rattle.lf_frame_index.proofs.LawLemmas.{segments_hold}
+use Rattle.lf_segments.proofs.LawLemmas.{segments_hold}
 use Rattle.lf_rules.specs.Padding.{wider}
 use Rattle.lf_rules.specs.Legality.{IsOnRail, IsOriented}
 use Rattle.lf_rules.specs.Legality.{box_of as box_tried}
@@ -37,9 +37,9 @@ use Rattle.lf_rules.proofs.SiteLemmas.{OneOfFour, legal_upright}
 use Rattle.lf_cells.specs.declared.cell.Cell.{Cell}
 use Rattle.lf_cells.specs.declared.cell.CellId.{CellId}
 use Rattle.lf_cells.specs.Cells.{Cells, cells_of}
-use Rattle.lf_frame_index.specs.declared.strip.Strip.{Strip}
+use Rattle.lf_segments.specs.declared.strip.Strip.{Strip}
 use Rattle.lf_occupancy.specs.Views.{Occupied, IsFreeOver, IsOther, IsStripOf, boxes_of, part_over}
-use Rattle.lf_frame_index.specs.Strips.{IsNear, row_y, strip_of}
+use Rattle.lf_segments.specs.Strips.{IsNear, row_y, strip_of}
 use Rattle.lf_occupancy.specs.Floorplans.{HoldsCells, IsOccupancyOf, working_box_of}
 use Rattle.lf_legalize.specs.declared.row_search.RowSearch.{RowSearch}
 use Rattle.lf_legalize.specs.Members.{member_of}

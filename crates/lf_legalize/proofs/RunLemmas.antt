@@ -7,15 +7,15 @@ use Rattle.std.proofs.lemmas.Int.{ints}
 use Rattle.std.proofs.lemmas.List.{get_or_append_left, get_or-append-add, get_or-take, get_or_default, length-append, length-take, take_more, take_all}
 use Rattle.std.proofs.lemmas.Option.{get_or_from_slice_get, slice_get_within}
 use Rattle.lf_units.specs.Area.{SharesPoint}
-use Rattle.lf_spans.specs.declared.span.Span.{Span}
-use Rattle.lf_spans.proofs.Anys.{any_cases, any_head, any_left, any_nil, any_split}
+use Rattle.lf_units.specs.declared.span.Span.{Span}
+use Rattle.lf_units.proofs.Anys.{any_cases, any_head, any_left, any_nil, any_split}
 use Rattle.lf_floorplan.specs.declared.frame.Frame.{Frame}
 use Rattle.lf_floorplan.specs.declared.parts.Row.{Row}
 use Rattle.lf_floorplan.specs.Rows.{IsCoreRow, row_area}
-use Rattle.lf_frame_index.specs.declared.rows_by_y.RowEntry.{RowEntry}
-use Rattle.lf_frame_index.specs.RowsByY.{entry, IsEntryOf, IsRowsByY, IsRunAt, PrecedesByY}
-use Rattle.lf_frame_index.proofs.HeightLemmas.{run_in_range, range_in_run, lower_is_not, higher_is_not}
-use Rattle.lf_frame_index.specs.Indexes.{IsIndexOf}
+use Rattle.lf_segments.specs.declared.rows_by_y.RowEntry.{RowEntry}
+use Rattle.lf_segments.specs.RowsByY.{entry, IsEntryOf, IsRowsByY, IsRunAt, PrecedesByY}
+use Rattle.lf_segments.proofs.HeightLemmas.{run_in_range, range_in_run, lower_is_not, higher_is_not}
+use Rattle.lf_segments.specs.Indexes.{IsIndexOf}
 use Rattle.lf_legalize.specs.declared.row_search.RowSearch.{RowSearch}
 use Rattle.lf_legalize.specs.RowSearches.{padding_in}
 use Rattle.lf_legalize.specs.Levels.{AddsLevel, AreFreeOn, IsLevelRow, IsRailed}

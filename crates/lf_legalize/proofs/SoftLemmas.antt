@@ -5,15 +5,15 @@ use Rattle.std.specs.Option.{option_map}
 use Rattle.std.proofs.lemmas.Int.{ints}
 use Rattle.std.proofs.lemmas.List.Elements.{All-nil}
 use Rattle.std.proofs.lemmas.Option.{slice_get-get_or, slice_get-map, slice_get_within, get_or_from_slice_get}
-use Rattle.lf_spans.specs.declared.span.Span.{Span}
-use Rattle.lf_spans.specs.Spans.{AreDisjoint, HoldsNumber, IsDisjointFrom, IsFilled, IsMinus, IsRising, LiesIn, LiesInOneOf}
-use Rattle.lf_spans.proofs.Edges.{rising_nil}
+use Rattle.lf_units.specs.declared.span.Span.{Span}
+use Rattle.lf_units.specs.Spans.{AreDisjoint, HoldsNumber, IsDisjointFrom, IsFilled, IsMinus, IsRising, LiesIn, LiesInOneOf}
+use Rattle.lf_units.proofs.SpanEdges.{rising_nil}
 use Rattle.lf_floorplan.specs.declared.frame.Frame.{Frame}
 use Rattle.lf_segments.specs.declared.segment.Segment.{Segment}
-use Rattle.lf_frame_index.specs.declared.strip.Strip.{Strip}
-use Rattle.lf_frame_index.specs.Indexes.{IsIndexOf, FrameIndexView}
-use Rattle.lf_frame_index.specs.Soft.{IsSoftAt}
-use Rattle.lf_frame_index.specs.Strips.{AreNear, IsNear, row_y, strip_of}
+use Rattle.lf_segments.specs.declared.strip.Strip.{Strip}
+use Rattle.lf_segments.specs.Indexes.{IsIndexOf, FrameIndexView}
+use Rattle.lf_segments.specs.Soft.{IsSoftAt}
+use Rattle.lf_segments.specs.Strips.{AreNear, IsNear, row_y, strip_of}
 use Rattle.lf_cells.specs.declared.cell.CellId.{CellId}
 use Rattle.lf_occupancy.specs.Views.{Occupied, IsFreeInRow, strip_extent}
 use Rattle.lf_legalize.specs.Levels.{AreWithoutSoft, AreOpenInRow}

@@ -10,7 +10,7 @@ use Rattle.lf_floorplan.specs.Sizes.{box_at}
 use Rattle.lf_floorplan.specs.RowSupport.{IsBottomRow}
 use Rattle.lf_rules.specs.Choice.{SpotPlace, PlacementQuery, Precedes, distance}
 use Rattle.lf_rules.specs.Scanning.{ScansPlaces, IsAsGood}
-use Rattle.lf_frame_index.specs.declared.rows_by_y.RowEntry.{RowEntry}
+use Rattle.lf_segments.specs.declared.rows_by_y.RowEntry.{RowEntry}
 
 -- the value of a range that is nearest to another value: the distance of each value of the range
 -- from the other value is its distance from the nearest one plus that of the nearest one

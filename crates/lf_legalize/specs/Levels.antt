@@ -3,9 +3,9 @@
 use Rattle.std.specs.Prelude.{◌≡◌, ◌↔◌, ℕ, zero, suc, ℤ, pos, ◌<◌, ◌≤◌, ◌%◌, ◌+ℤ◌, ◌*ℤ◌, List, [], ◌∷◌, ◌++◌, Any, IsTrue, Option, Some, MatchOption}
 use Rattle.std.specs.Prelude.{length, slice_get, slice_index_or}
 use Rattle.std.specs.Option.{option_map}
-use Rattle.lf_spans.specs.declared.span.Span.{Span}
-use Rattle.lf_spans.specs.Spans.{IsDisjointFrom, IsFilled, IsRising, LiesIn, LiesInOneOf}
-use Rattle.lf_spans.specs.Grids.{FindsNearest, IsNoFarther, IsBounded, grid_of}
+use Rattle.lf_units.specs.declared.span.Span.{Span}
+use Rattle.lf_units.specs.Spans.{IsDisjointFrom, IsFilled, IsRising, LiesIn, LiesInOneOf}
+use Rattle.lf_units.specs.Grids.{FindsNearest, IsNoFarther, IsBounded, grid_of}
 use Rattle.lf_gaps.specs.Gaps.{FitsRows}
 use Rattle.lf_orient.specs.declared.Orient.{Orient}
 use Rattle.lf_orient.specs.Orientation.{is_allowed, EqualUnder, rail_below}
@@ -14,8 +14,8 @@ use Rattle.lf_floorplan.specs.declared.parts.Row.{Row}
 use Rattle.lf_floorplan.specs.Bounds.{IsDefNumber}
 use Rattle.lf_floorplan.specs.Boxes.{macro_of}
 use Rattle.lf_floorplan.specs.RowSupport.{rail_alternated}
-use Rattle.lf_frame_index.specs.declared.strip.Strip.{Strip}
-use Rattle.lf_frame_index.specs.Strips.{IsNear}
+use Rattle.lf_segments.specs.declared.strip.Strip.{Strip}
+use Rattle.lf_segments.specs.Strips.{IsNear}
 use Rattle.lf_rules.specs.Choice.{rank}
 use Rattle.lf_cells.specs.declared.cell.CellId.{CellId}
 use Rattle.lf_occupancy.specs.Views.{Occupied, IsFreeOver, IsStripOf}

@@ -2,7 +2,7 @@
 use Rattle.std.specs.Prelude.{◌==◌, ℕ, List, [], filter, not, Option, Some, None}
 use Rattle.std.specs.Option.{option_map}
 use Rattle.lf_floorplan.specs.declared.frame.Frame.{Frame}
-use Rattle.lf_rtree.specs.declared.placed.Placed.{Placed}
+use Rattle.lf_units.specs.declared.placed.Placed.{Placed}
 use Rattle.lf_rules.specs.Choice.{spot_of}
 use Rattle.lf_rules.specs.Team.{with_box}
 use Rattle.lf_cells.specs.declared.cell.Cell.{Cell}

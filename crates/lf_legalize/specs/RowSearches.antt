@@ -1,7 +1,7 @@
 -- The best place of a cell on one row. No public clause cites this module.
 use Rattle.std.specs.Prelude.{◌≡◌, ◌⊎◌, ℤ, ◌+ℤ◌, ◌≤ℤ◌, Option, map, MatchOption}
 use Rattle.lf_units.specs.declared.geometry.Point.{Point}
-use Rattle.lf_spans.specs.declared.span.Span.{Span}
+use Rattle.lf_units.specs.declared.span.Span.{Span}
 use Rattle.lf_floorplan.specs.declared.frame.Frame.{Frame}
 use Rattle.lf_floorplan.specs.declared.parts.Row.{Row}
 use Rattle.lf_floorplan.specs.Sizes.{box_at}

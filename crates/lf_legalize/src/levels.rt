@@ -4,15 +4,15 @@ ghost use Rattle.std.specs.Prelude.{◌≡◌, ◌↔◌, ◌<◌, ◌+ℤ◌, �
 ghost use Rattle.std.specs.Option.{option_map};
 ghost use Rattle.lf_orient.specs.Orientation.{rail_below};
 ghost use Rattle.lf_floorplan.specs.RowSupport.{rail_alternated};
-ghost use Rattle.lf_frame_index.specs.RowsByY.{IsRunAt};
+ghost use Rattle.lf_segments.specs.RowsByY.{IsRunAt};
 ghost use Rattle.lf_legalize.specs.Levels.{AddsLevel, AreFreeOn, AreLevels, HasBareLevel, IsLevel, IsLevelRow};
 ghost use Rattle.lf_legalize.specs.RowSearches.{padding_in};
 
 use crate::open_spans::open_in_row;
 use crate::row_search::{RowSearch, SearchWindow, rows_of, search_is_occupied};
 use lf_floorplan::Row;
-use lf_frame_index::RowEntry;
 use lf_orient::{Rail, opposite, row_rail};
+use lf_segments::RowEntry;
 use lf_units::{Point, Span};
 use std::alloc::{AllocError, Global};
 

@@ -4,7 +4,7 @@ ghost use Rattle.std.specs.Prelude.{◌≡◌, ◌↔◌, ◌⊎◌, ◌≤◌, 
 ghost use Rattle.lf_floorplan.specs.declared.parts.Row.{Row};
 ghost use Rattle.lf_floorplan.specs.Rows.{IsCoreRow, row_area};
 ghost use Rattle.lf_rules.specs.Choice.{IsChoice, IsAllowedPlace, SpotPlace, spot_of};
-ghost use Rattle.lf_frame_index.specs.RowsByY.{IsEntryOf};
+ghost use Rattle.lf_segments.specs.RowsByY.{IsEntryOf};
 ghost use Rattle.lf_legalize.specs.Extents.{IsOnEntries, IsOnRow, IsWithin, ScansPlacesWithin};
 ghost use Rattle.lf_legalize.specs.RowSearches.{IsChoiceAmong, IsOnRowIn, query_of_search};
 
@@ -13,7 +13,7 @@ use crate::limits::{better, limit, window};
 use crate::on_row::best_on_row;
 use crate::row_search::{RowSearch, SearchWindow, rows_of, search_is_occupied};
 use lf_floorplan::{Place, Row};
-use lf_frame_index::{RowEntry, runs_have_rows};
+use lf_segments::{RowEntry, runs_have_rows};
 use lf_units::{Point, Span};
 use std::alloc::{AllocError, Global};
 

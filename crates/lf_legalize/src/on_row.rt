@@ -5,8 +5,8 @@ ghost use Rattle.lf_floorplan.specs.declared.parts.Row.{Row};
 ghost use Rattle.lf_floorplan.specs.Bounds.{IsDefNumber};
 ghost use Rattle.lf_rules.specs.Choice.{spot_of};
 ghost use Rattle.lf_gaps.specs.Gaps.{FitsRows};
-ghost use Rattle.lf_spans.specs.Grids.{FindsNearest, IsBounded, IsBoundedSpan, IsGrid, grid_of};
-ghost use Rattle.lf_spans.specs.Spans.{IsRising};
+ghost use Rattle.lf_units.specs.Grids.{FindsNearest, IsBounded, IsBoundedSpan, IsGrid, grid_of};
+ghost use Rattle.lf_units.specs.Spans.{IsRising};
 ghost use Rattle.lf_legalize.specs.Levels.{AreLevels, FindsFreeX, FindsOrient, IsFirstOrient, IsEquivalentTarget, FitsRow};
 ghost use Rattle.lf_legalize.specs.RowSearches.{IsChoiceAmong, IsOnRowIn, query_of_search};
 
@@ -17,8 +17,7 @@ use lf_floorplan::{Frame, Place, Row, mac_at};
 use lf_gaps::{GapTarget, best_in_row};
 use lf_orient::Orient;
 use lf_rules::{is_on_rail, is_oriented};
-use lf_spans::SiteGrid;
-use lf_units::{Point, Span};
+use lf_units::{Point, SiteGrid, Span};
 use std::alloc::{AllocError, Global};
 use std::slice;
 

@@ -1,15 +1,14 @@
 //! The free spans of a row without those that soft blockages cover.
 
 ghost use Rattle.std.specs.Prelude.{◌≡◌, ℕ, IfOk, [], slice_index_or};
-ghost use Rattle.lf_spans.specs.Spans.{IsMinus, IsRising};
+ghost use Rattle.lf_units.specs.Spans.{IsMinus, IsRising};
 ghost use Rattle.lf_occupancy.specs.Views.{IsPaddingOf};
 ghost use Rattle.lf_legalize.specs.Levels.{AreWithoutSoft, AreOpenInRow};
 ghost use Rattle.lf_legalize.specs.RowSearches.{padding_in};
 
 use crate::row_search::{RowSearch, SearchWindow, search_is_occupied};
-use lf_frame_index::{FrameIndex, StripRange};
-use lf_spans::spans_minus;
-use lf_units::Span;
+use lf_segments::{FrameIndex, StripRange};
+use lf_units::{Span, spans_minus};
 use std::alloc::{AllocError, Global};
 
 /// The spans without the soft ones, which are empty for most strips.

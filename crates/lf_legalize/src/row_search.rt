@@ -8,9 +8,9 @@ ghost use Rattle.lf_legalize.specs.Extents.{IsNearDefPoint};
 use crate::occupied_frame::OccupiedFrame;
 use lf_cells::CellId;
 use lf_floorplan::Frame;
-use lf_frame_index::RowsByY;
 use lf_occupancy::OccupancyView;
 use lf_rules::Padding;
+use lf_segments::RowsByY;
 use lf_units::{Point, Span};
 
 /// A cell that is regarded as unplaced, the target for its best place, and its team's padding.

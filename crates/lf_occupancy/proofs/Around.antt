@@ -5,10 +5,10 @@ use Rattle.std.specs.Int.{int_max, int_min}
 use Rattle.std.proofs.lemmas.Int.{ints, clamps}
 use Rattle.std.proofs.lemmas.List.{get_or-map, length-map}
 use Rattle.std.proofs.lemmas.List.Elements.{All-map}
-use Rattle.lf_frame_index.specs.declared.rows_by_y.RowEntry.{RowEntry}
-use Rattle.lf_frame_index.specs.declared.strip.Strip.{Strip}
-use Rattle.lf_frame_index.specs.Indexes.{FrameIndexView}
-use Rattle.lf_frame_index.specs.Strips.{AreNear, AreStrips, IsNear, IsPlaced}
+use Rattle.lf_segments.specs.declared.rows_by_y.RowEntry.{RowEntry}
+use Rattle.lf_segments.specs.declared.strip.Strip.{Strip}
+use Rattle.lf_segments.specs.Indexes.{FrameIndexView}
+use Rattle.lf_segments.specs.Strips.{AreNear, AreStrips, IsNear, IsPlaced}
 use Rattle.lf_rules.specs.Padding.{IsShort}
 use Rattle.lf_rules.proofs.PaddingLemmas.{short_sites}
 use Rattle.lf_occupancy.specs.MarkLists.{IsNearZero}

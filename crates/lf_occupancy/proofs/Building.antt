@@ -17,7 +17,7 @@ use Rattle.lf_cells.specs.declared.cell.Cell.{Cell}
 use Rattle.lf_cells.specs.declared.cell.CellId.{CellId}
 use Rattle.lf_cells.specs.Cells.{Cells, cell_at, cells_of, id_of}
 use Rattle.lf_occupancy.specs.declared.strip_marks.StripMarks.{StripMarks}
-use Rattle.lf_frame_index.specs.declared.strip.Strip.{Strip}
+use Rattle.lf_segments.specs.declared.strip.Strip.{Strip}
 use Rattle.lf_occupancy.specs.Building.{HaveNoMarks, AreFilled, AreFilledIn, HasNoMark, PrecedesCell, id_at}
 use Rattle.lf_occupancy.specs.Floorplans.{working_box_of, boxes_in}
 use Rattle.lf_occupancy.specs.Views.{cell_box}

@@ -5,8 +5,8 @@ use Rattle.std.specs.Option.{option_map_or}
 use Rattle.std.proofs.lemmas.Int.{ints}
 use Rattle.lf_units.specs.declared.geometry.Rect.{Rect}
 use Rattle.lf_units.specs.Area.{Covers}
-use Rattle.lf_spans.specs.Spans.{HoldsNumber, LiesIn}
-use Rattle.lf_spans.proofs.Anys.{any_weaker}
+use Rattle.lf_units.specs.Spans.{HoldsNumber, LiesIn}
+use Rattle.lf_units.proofs.Anys.{any_weaker}
 use Rattle.lf_floorplan.specs.declared.frame.Frame.{Frame}
 use Rattle.lf_floorplan.specs.declared.parts.Row.{Row}
 use Rattle.lf_floorplan.specs.Rows.{row_area}
@@ -15,10 +15,10 @@ use Rattle.lf_floorplan.specs.RowSupport.{RestsOnRows}
 use Rattle.lf_segments.specs.declared.segment.Segment.{Segment}
 use Rattle.lf_segments.specs.Segments.{IsOf}
 use Rattle.lf_segments.specs.Boxes.{x_extent}
-use Rattle.lf_frame_index.specs.Indexes.{IsIndexOf}
-use Rattle.lf_frame_index.specs.Strips.{row_y, strip_of}
-use Rattle.lf_frame_index.proofs.LawLemmas.{InSegment, in_segment, segments_hold}
-use Rattle.lf_frame_index.specs.declared.strip.Strip.{Strip}
+use Rattle.lf_segments.specs.Indexes.{IsIndexOf}
+use Rattle.lf_segments.specs.Strips.{row_y, strip_of}
+use Rattle.lf_segments.proofs.LawLemmas.{InSegment, in_segment, segments_hold}
+use Rattle.lf_segments.specs.declared.strip.Strip.{Strip}
 use Rattle.lf_rules.specs.Padding.{wider}
 use Rattle.lf_occupancy.specs.Views.{Occupied, reach}
 use Rattle.lf_occupancy.proofs.Lists.{any_made}

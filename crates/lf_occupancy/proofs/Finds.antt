@@ -5,11 +5,11 @@ use Rattle.std.proofs.lemmas.Int.{ints}
 use Rattle.std.proofs.lemmas.List.{get_or_default}
 use Rattle.std.proofs.lemmas.List.Elements.{All-contains, Contains-append_cases}
 use Rattle.lf_units.specs.declared.geometry.Rect.{Rect}
-use Rattle.lf_frame_index.specs.declared.rows_by_y.RowEntry.{RowEntry}
-use Rattle.lf_frame_index.specs.declared.strip.Strip.{Strip}
-use Rattle.lf_frame_index.specs.Indexes.{FrameIndexView}
+use Rattle.lf_segments.specs.declared.rows_by_y.RowEntry.{RowEntry}
+use Rattle.lf_segments.specs.declared.strip.Strip.{Strip}
+use Rattle.lf_segments.specs.Indexes.{FrameIndexView}
 use Rattle.lf_occupancy.specs.MarkLists.{EntryIsInside, IsLeast, OverlapsOne, StripView}
-use Rattle.lf_frame_index.specs.Strips.{AreNear, AreRowsNear}
+use Rattle.lf_segments.specs.Strips.{AreNear, AreRowsNear}
 use Rattle.lf_occupancy.specs.Strips.{AreOrderly, OverlapsAt, OverlapsInOne, OverlapsInRow}
 use Rattle.lf_occupancy.proofs.Around.{IsInWidened}
 use Rattle.lf_occupancy.proofs.Leasts.{least_alike, least_of_both}

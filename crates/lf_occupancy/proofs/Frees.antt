@@ -4,14 +4,14 @@ use Rattle.std.specs.Prelude.{All, AllPairs}
 use Rattle.std.proofs.lemmas.Int.{ints}
 use Rattle.std.proofs.lemmas.List.{get_or_default}
 use Rattle.std.proofs.lemmas.List.Elements.{All-append, All-nil, Contains-get_or}
-use Rattle.lf_spans.specs.declared.span.Span.{Span}
-use Rattle.lf_spans.specs.Spans.{IsDisjointFrom, IsFilled, IsFreeIn, IsRising, LiesIn, LiesInOneOf}
-use Rattle.lf_spans.proofs.Anys.{any_left, any_split}
-use Rattle.lf_spans.proofs.Edges.{in_of_lies}
-use Rattle.lf_frame_index.specs.declared.strip.Strip.{Strip}
+use Rattle.lf_units.specs.declared.span.Span.{Span}
+use Rattle.lf_units.specs.Spans.{IsDisjointFrom, IsFilled, IsFreeIn, IsRising, LiesIn, LiesInOneOf}
+use Rattle.lf_units.proofs.Anys.{any_left, any_split}
+use Rattle.lf_units.proofs.SpanEdges.{in_of_lies}
+use Rattle.lf_segments.specs.declared.strip.Strip.{Strip}
 use Rattle.lf_occupancy.specs.MarkLists.{StripView, all_padded, others_in, spans_in, x_range}
 use Rattle.lf_occupancy.specs.Views.{strip_extent}
-use Rattle.lf_frame_index.specs.Strips.{AreNear, LiesBefore, IsNear}
+use Rattle.lf_segments.specs.Strips.{AreNear, LiesBefore, IsNear}
 use Rattle.lf_cells.specs.declared.cell.CellId.{CellId}
 use Rattle.lf_occupancy.specs.Strips.{AreFreeTo, AreFreeSpansOfStrip, LiesFree}
 use Rattle.lf_gaps.proofs.Nearest.{any_right}

@@ -2,11 +2,11 @@
 -- list of free spans.
 use Rattle.std.proofs.Common.{◌⊎◌, inl, inr, ◌≤ℤ◌, ◌<ℤ◌, ◌≤◌, ◌<◌, ◌+◌, ◌≡◌, ℕ, ℤ, pos, negsuc, List, [], ◌∷◌, ◌++◌, Option, None, get_or, length, refl, arith}
 use Rattle.std.proofs.lemmas.Int.{ints}
-use Rattle.lf_spans.specs.declared.span.Span.{Span}
-use Rattle.lf_spans.specs.Spans.{IsFilled, IsFree, IsInOrder}
-use Rattle.lf_spans.specs.Steps.{AddsFilled, IsBefore, IsAfter}
-use Rattle.lf_spans.specs.Grids.{IsBoundedSpan}
-use Rattle.lf_spans.proofs.Frees.{Frees}
+use Rattle.lf_units.specs.declared.span.Span.{Span}
+use Rattle.lf_units.specs.Spans.{IsFilled, IsFree, IsInOrder}
+use Rattle.lf_units.specs.Steps.{AddsFilled, IsBefore, IsAfter}
+use Rattle.lf_units.specs.Grids.{IsBoundedSpan}
+use Rattle.lf_units.proofs.Frees.{Frees}
 use Rattle.lf_gaps.specs.declared.gap_target.GapTarget.{GapTarget}
 use Rattle.lf_gaps.specs.Gaps.{FindsGap}
 use Rattle.lf_gaps.specs.Steps.{AddsGap}

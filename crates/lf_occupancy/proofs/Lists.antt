@@ -4,7 +4,7 @@ use Rattle.std.proofs.Common.{take, map, refl, sym, ap, subst, ◌∙◌, arith}
 use Rattle.std.specs.Prelude.{All, AllPairs, Any, Contains, Some, filter, slice_get}
 use Rattle.std.proofs.lemmas.List.{take_more}
 use Rattle.std.proofs.lemmas.List.Elements.{All-append, All-filter}
-use Rattle.lf_spans.proofs.Anys.{any_cases, any_head, any_left, any_nil, any_split, any_tail}
+use Rattle.lf_units.proofs.Anys.{any_cases, any_head, any_left, any_nil, any_split, any_tail}
 
 -- what a filter keeps of a list it contains
 pub contains_filter : {X : Type 0} (p : X → Bool) (xs : List X) (x : X) → Contains xs x → p x ≡ true → Contains (filter p xs) x

@@ -8,11 +8,11 @@ use Rattle.std.proofs.lemmas.Int.{ints}
 use Rattle.std.proofs.lemmas.List.{get_or_default}
 use Rattle.lf_units.specs.declared.geometry.Rect.{Rect}
 use Rattle.lf_cells.specs.declared.cell.CellId.{CellId}
-use Rattle.lf_frame_index.specs.declared.rows_by_y.RowEntry.{RowEntry}
+use Rattle.lf_segments.specs.declared.rows_by_y.RowEntry.{RowEntry}
 use Rattle.lf_occupancy.specs.declared.strip_marks.Entry.{Entry}
 use Rattle.lf_occupancy.specs.declared.strip_marks.StripMarks.{StripMarks}
 use Rattle.lf_occupancy.specs.declared.strip_marks.Mark.{Mark}
-use Rattle.lf_frame_index.specs.declared.strip.Strip.{Strip}
+use Rattle.lf_segments.specs.declared.strip.Strip.{Strip}
 use Rattle.lf_occupancy.specs.Views.{cell_box}
 use Rattle.lf_occupancy.specs.MarkLists.{AreRising, HasAtMostOne, IsMarked, IsMarkOfCell, HasNoMarkFrom, marked_entries, marked_entry, marks_but, some_box}
 use Rattle.lf_occupancy.specs.Strips.{ShowAllBoxes, HaveAtMostOne, HasBoxOrNone, IsOfTeam, IsReached, HasOneMark}

@@ -11,15 +11,15 @@ use Rattle.std.proofs.lemmas.List.{get_or_default, get_or-set_same, get_or-set_o
 use Rattle.std.proofs.lemmas.List.Elements.{All-contains, Contains-append_cases}
 use Rattle.lf_units.specs.declared.geometry.Rect.{Rect}
 use Rattle.lf_units.specs.Area.{Covers, SharesPoint}
-use Rattle.lf_spans.proofs.Anys.{any_nil, any_head, any_tail, any_cases}
-use Rattle.lf_frame_index.specs.declared.rows_by_y.RowEntry.{RowEntry}
+use Rattle.lf_units.proofs.Anys.{any_nil, any_head, any_tail, any_cases}
+use Rattle.lf_segments.specs.declared.rows_by_y.RowEntry.{RowEntry}
 use Rattle.lf_occupancy.specs.declared.strip_marks.StripMarks.{StripMarks}
-use Rattle.lf_frame_index.specs.declared.strip.Strip.{Strip}
-use Rattle.lf_frame_index.specs.Indexes.{FrameIndexView}
+use Rattle.lf_segments.specs.declared.strip.Strip.{Strip}
+use Rattle.lf_segments.specs.Indexes.{FrameIndexView}
 use Rattle.lf_occupancy.specs.MarkLists.{AreRising, IsMarked, IsUnmarked, StripView, part_in}
-use Rattle.lf_frame_index.specs.Strips.{AreRowsNear}
+use Rattle.lf_segments.specs.Strips.{AreRowsNear}
 use Rattle.lf_occupancy.specs.Strips.{AreChanged, KeepMarksOf, ShowAllBoxes, AreOrderly, AreShown, OverlapsStrip}
-use Rattle.lf_frame_index.specs.Strips.{IsNear}
+use Rattle.lf_segments.specs.Strips.{IsNear}
 use Rattle.lf_occupancy.specs.Strips.{IsReached, PutsIn, CanTake, HaveRoom, capacities_in}
 use Rattle.lf_occupancy.specs.Views.{KeepsCapacities, cell_box}
 use Rattle.lf_occupancy.proofs.Around.{IsInWidened}

@@ -9,8 +9,8 @@ use Rattle.std.proofs.lemmas.List.{length-append, get_or_append_left, get_or-app
 use Rattle.std.proofs.lemmas.List.Elements.{All-contains, All-contains_itself, All-filter, All-map, filter_passes}
 use Rattle.std.proofs.lemmas.List.Elements.{Contains-append_left, Contains-append_right, Contains-append_cases, Contains-get_or}
 use Rattle.lf_units.specs.declared.geometry.Rect.{Rect}
-use Rattle.lf_spans.specs.declared.span.Span.{Span}
-use Rattle.lf_spans.specs.Spans.{AreDisjoint, HoldsNumber, IsDisjointFrom, IsFreeIn, LiesIn}
+use Rattle.lf_units.specs.declared.span.Span.{Span}
+use Rattle.lf_units.specs.Spans.{AreDisjoint, HoldsNumber, IsDisjointFrom, IsFreeIn, LiesIn}
 use Rattle.lf_occupancy.specs.declared.strip_marks.Entry.{Entry}
 use Rattle.lf_occupancy.specs.declared.strip_marks.Mark.{Mark}
 use Rattle.lf_occupancy.specs.MarkLists.{AreInOrder, AreRising, IsNearRun, OverlapsOne, others_in, spans_in, x_range}

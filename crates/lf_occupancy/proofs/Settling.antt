@@ -3,10 +3,10 @@ use Rattle.std.proofs.Common.{◌≡◌, ◌≢◌, ℕ, ◌+◌, ◌<◌, ◌�
 use Rattle.std.specs.Prelude.{All, AllPairs, Err, Ok, OnErr, Result}
 use Rattle.std.proofs.lemmas.List.{take_all}
 use Rattle.lf_units.specs.declared.geometry.Rect.{Rect}
-use Rattle.lf_frame_index.specs.declared.rows_by_y.RowEntry.{RowEntry}
-use Rattle.lf_frame_index.specs.declared.strip.Strip.{Strip}
-use Rattle.lf_frame_index.specs.declared.strips.StripRange.{StripRange}
-use Rattle.lf_frame_index.specs.Strips.{AreNear}
+use Rattle.lf_segments.specs.declared.rows_by_y.RowEntry.{RowEntry}
+use Rattle.lf_segments.specs.declared.strip.Strip.{Strip}
+use Rattle.lf_segments.specs.declared.strips.StripRange.{StripRange}
+use Rattle.lf_segments.specs.Strips.{AreNear}
 use Rattle.lf_occupancy.specs.declared.strip_marks.StripMarks.{StripMarks}
 use Rattle.lf_occupancy.specs.MarkLists.{AreRising, TakesPart}
 use Rattle.lf_occupancy.specs.Reserving.{AreReservedAndMarked, IsOneOf}

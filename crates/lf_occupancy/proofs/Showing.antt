@@ -6,7 +6,7 @@ use Rattle.std.proofs.lemmas.Int.{ints}
 use Rattle.std.proofs.lemmas.List.Elements.{All-drop}
 use Rattle.lf_units.specs.declared.geometry.Rect.{Rect}
 use Rattle.lf_rules.specs.Padding.{HasRoomAround}
-use Rattle.lf_frame_index.specs.declared.strip.Strip.{Strip}
+use Rattle.lf_segments.specs.declared.strip.Strip.{Strip}
 use Rattle.lf_occupancy.specs.declared.strip_marks.Entry.{Entry}
 use Rattle.lf_occupancy.specs.declared.strip_marks.StripMarks.{StripMarks}
 use Rattle.lf_occupancy.specs.declared.strip_marks.Mark.{Mark}

@@ -9,10 +9,10 @@ use Rattle.std.proofs.lemmas.Option.{get_or_from_slice_get, slice_get_within}
 use Rattle.std.proofs.lemmas.Int.{ints, clamps}
 use Rattle.lf_units.specs.Area.{Covers}
 use Rattle.lf_units.specs.declared.geometry.Rect.{Rect}
-use Rattle.lf_frame_index.specs.declared.rows_by_y.RowEntry.{RowEntry}
-use Rattle.lf_frame_index.specs.declared.strip.Strip.{Strip}
-use Rattle.lf_frame_index.specs.Indexes.{FrameIndexView}
-use Rattle.lf_frame_index.specs.Strips.{AreRowsNear}
+use Rattle.lf_segments.specs.declared.rows_by_y.RowEntry.{RowEntry}
+use Rattle.lf_segments.specs.declared.strip.Strip.{Strip}
+use Rattle.lf_segments.specs.Indexes.{FrameIndexView}
+use Rattle.lf_segments.specs.Strips.{AreRowsNear}
 use Rattle.lf_occupancy.specs.declared.strip_marks.StripMarks.{StripMarks}
 use Rattle.lf_occupancy.specs.MarkLists.{HasPoints, part_in}
 use Rattle.lf_occupancy.specs.Views.{Bounds, KeepsCapacities, Occupied, cell_box, count_in, widened, does_overlap, reach}

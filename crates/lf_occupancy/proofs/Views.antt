@@ -9,13 +9,13 @@ use Rattle.std.proofs.lemmas.List.{get_or_default, get_or-map, length-map}
 use Rattle.std.proofs.lemmas.List.Elements.{All-contains}
 use Rattle.lf_units.specs.declared.geometry.Rect.{Rect}
 use Rattle.lf_units.specs.Area.{Covers, SharesPoint}
-use Rattle.lf_spans.specs.declared.span.Span.{Span}
-use Rattle.lf_spans.specs.Spans.{AreDisjoint, HoldsNumber, IsFilled, LiesIn}
-use Rattle.lf_spans.proofs.Edges.{in_of_lies}
+use Rattle.lf_units.specs.declared.span.Span.{Span}
+use Rattle.lf_units.specs.Spans.{AreDisjoint, HoldsNumber, IsFilled, LiesIn}
+use Rattle.lf_units.proofs.SpanEdges.{in_of_lies}
 use Rattle.lf_cells.specs.declared.cell.CellId.{CellId}
 use Rattle.lf_occupancy.specs.declared.strip_marks.Entry.{Entry}
 use Rattle.lf_occupancy.specs.declared.strip_marks.StripMarks.{StripMarks}
-use Rattle.lf_frame_index.specs.declared.strip.Strip.{Strip}
+use Rattle.lf_segments.specs.declared.strip.Strip.{Strip}
 use Rattle.lf_rules.specs.Padding.{wider}
 use Rattle.lf_occupancy.specs.MarkLists.{ShowsBoxes, IsMarked, LiesInBox, IsLeast, StripView, widened_entry, strip_view, x_range}
 use Rattle.lf_occupancy.specs.Strips.{AreFreeTo, ShowAllBoxes, AreFreeSpansOfStrip, AreShown, HaveRoom, LiesFree, IsLeftFree, OverlapsInOne, OverlapsStrip, widened_strips, capacities_in}

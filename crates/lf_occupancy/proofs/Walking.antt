@@ -8,11 +8,11 @@ use Rattle.std.proofs.Math.Seq.{get_or-append_seam}
 use Rattle.std.proofs.lemmas.Int.{ints, clamps}
 use Rattle.std.proofs.lemmas.List.{get_or-map, length-append, length-map, map-append, take-append-drop, take_all}
 use Rattle.std.proofs.lemmas.List.Elements.{filter-append}
-use Rattle.lf_spans.specs.declared.span.Span.{Span}
-use Rattle.lf_spans.specs.Spans.{IsFilled, IsFree, IsFreeIn, IsInOrder, LiesIn}
-use Rattle.lf_spans.specs.Steps.{AddsFilled, IsBefore, IsAfter}
-use Rattle.lf_spans.proofs.Edges.{rising_nil}
-use Rattle.lf_spans.proofs.Frees.{Frees, frees_end, frees_more}
+use Rattle.lf_units.specs.declared.span.Span.{Span}
+use Rattle.lf_units.specs.Spans.{IsFilled, IsFree, IsFreeIn, IsInOrder, LiesIn}
+use Rattle.lf_units.specs.Steps.{AddsFilled, IsBefore, IsAfter}
+use Rattle.lf_units.proofs.SpanEdges.{rising_nil}
+use Rattle.lf_units.proofs.Frees.{Frees, frees_end, frees_more}
 use Rattle.lf_occupancy.specs.declared.strip_marks.Entry.{Entry}
 use Rattle.lf_occupancy.specs.MarkLists.{all_padded, others_in, widened_entry, spans_in, wider_range, x_range}
 use Rattle.lf_occupancy.proofs.Padded.{other_further, other_no_further}

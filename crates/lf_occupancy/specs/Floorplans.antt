@@ -7,7 +7,7 @@ use Rattle.lf_floorplan.specs.declared.frame.Frame.{Frame}
 use Rattle.lf_floorplan.specs.Boxes.{IsSized, macro_of}
 use Rattle.lf_floorplan.specs.Ground.{StaysInGround, IsClear}
 use Rattle.lf_floorplan.specs.RowSupport.{RestsOnRows}
-use Rattle.lf_frame_index.specs.Indexes.{IsIndexOf}
+use Rattle.lf_segments.specs.Indexes.{IsIndexOf}
 use Rattle.lf_rules.specs.Choice.{spot_of}
 use Rattle.lf_rules.specs.Padding.{wider}
 use Rattle.lf_rules.specs.Team.{box_in}

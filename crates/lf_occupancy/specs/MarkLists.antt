@@ -7,7 +7,7 @@ use Rattle.std.specs.Int.{int_max, int_min}
 use Rattle.std.specs.Vec.{vec_len, vec_capacity}
 use Rattle.lf_units.specs.declared.geometry.Rect.{Rect}
 use Rattle.lf_units.specs.Area.{Covers, SharesPoint}
-use Rattle.lf_spans.specs.declared.span.Span.{Span}
+use Rattle.lf_units.specs.declared.span.Span.{Span}
 use Rattle.lf_occupancy.specs.declared.strip_marks.Entry.{Entry}
 use Rattle.lf_occupancy.specs.declared.strip_marks.StripMarks.{StripMarks}
 use Rattle.lf_occupancy.specs.declared.strip_marks.Mark.{Mark}

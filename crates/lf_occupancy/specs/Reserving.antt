@@ -1,8 +1,8 @@
 -- How a cell is marked: its strips get room for it first.
 use Rattle.std.specs.Prelude.{◌≡◌, ℕ, ◌<◌, ◌≤◌, List, length}
 use Rattle.lf_units.specs.declared.geometry.Rect.{Rect}
-use Rattle.lf_frame_index.specs.declared.strip.Strip.{Strip}
-use Rattle.lf_frame_index.specs.declared.strips.StripRange.{StripRange}
+use Rattle.lf_segments.specs.declared.strip.Strip.{Strip}
+use Rattle.lf_segments.specs.declared.strips.StripRange.{StripRange}
 use Rattle.lf_occupancy.specs.declared.strip_marks.StripMarks.{StripMarks}
 use Rattle.lf_occupancy.specs.Strips.{AreChanged, CanTake, KeepMarksOf, PutsIn}
 

@@ -2,7 +2,7 @@
 use Rattle.std.specs.Prelude.{◌≡◌, ◌≢◌, ℕ, ◌+◌, ◌<◌, ◌≤◌, List, [], ◌∷◌, length, Option, Some, slice_index_or}
 use Rattle.std.specs.Int.{int_max, int_min}
 use Rattle.lf_units.specs.declared.geometry.Rect.{Rect}
-use Rattle.lf_frame_index.specs.declared.strip.Strip.{Strip}
+use Rattle.lf_segments.specs.declared.strip.Strip.{Strip}
 use Rattle.lf_occupancy.specs.MarkLists.{HasPoints, part_in}
 use Rattle.lf_occupancy.specs.declared.strip_counts.BoxChange.{BoxChange}
 use Rattle.lf_occupancy.specs.declared.strip_marks.StripMarks.{StripMarks}

@@ -6,13 +6,13 @@ use Rattle.std.specs.Vec.{vec_capacity}
 use Rattle.lf_cells.specs.declared.cell.CellId.{CellId}
 use Rattle.lf_units.specs.declared.geometry.Rect.{Rect}
 use Rattle.lf_units.specs.Area.{SharesPoint}
-use Rattle.lf_spans.specs.declared.span.Span.{Span}
-use Rattle.lf_spans.specs.Spans.{IsFilled, IsRising, LiesIn, LiesInOneOf, IsDisjointFrom}
-use Rattle.lf_frame_index.specs.declared.rows_by_y.RowEntry.{RowEntry}
-use Rattle.lf_frame_index.specs.declared.strip.Strip.{Strip}
-use Rattle.lf_frame_index.specs.Strips.{IsNear}
+use Rattle.lf_units.specs.declared.span.Span.{Span}
+use Rattle.lf_units.specs.Spans.{IsFilled, IsRising, LiesIn, LiesInOneOf, IsDisjointFrom}
+use Rattle.lf_segments.specs.declared.rows_by_y.RowEntry.{RowEntry}
+use Rattle.lf_segments.specs.declared.strip.Strip.{Strip}
+use Rattle.lf_segments.specs.Strips.{IsNear}
 use Rattle.lf_occupancy.specs.declared.strip_marks.StripMarks.{StripMarks}
-use Rattle.lf_frame_index.specs.Indexes.{FrameIndexView}
+use Rattle.lf_segments.specs.Indexes.{FrameIndexView}
 use Rattle.lf_occupancy.specs.MarkLists.{AreRising, HasAtMostOne, HasRoomOf, EntryIsInside, KeepsMarksOf, ShowsBoxes, IsMarked, IsOrderly, IsUnmarked, IsPutIn, OverlapsOne, StripView}
 use Rattle.lf_occupancy.specs.MarkLists.{TakesPart, all_padded, others_in, strip_view, spans_in}
 use Rattle.lf_occupancy.specs.Views.{HasRoomFor, Occupied, strip_extent, cell_box, widened}

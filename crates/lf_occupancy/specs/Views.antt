@@ -4,10 +4,10 @@ use Rattle.std.specs.Prelude.{[], Option, None, Some, Any, IsSomeAnd, MatchOptio
 use Rattle.std.specs.Int.{int_max, int_min}
 use Rattle.lf_units.specs.declared.geometry.Rect.{Rect}
 use Rattle.lf_units.specs.Area.{Covers, SharesPoint}
-use Rattle.lf_spans.specs.declared.span.Span.{Span}
-use Rattle.lf_spans.specs.Spans.{IsFilled, IsRising, LiesIn, LiesInOneOf}
-use Rattle.lf_frame_index.specs.declared.strip.Strip.{Strip}
-use Rattle.lf_frame_index.specs.Indexes.{FrameIndexView}
+use Rattle.lf_units.specs.declared.span.Span.{Span}
+use Rattle.lf_units.specs.Spans.{IsFilled, IsRising, LiesIn, LiesInOneOf}
+use Rattle.lf_segments.specs.declared.strip.Strip.{Strip}
+use Rattle.lf_segments.specs.Indexes.{FrameIndexView}
 use Rattle.lf_rules.specs.Padding.{wider}
 use Rattle.lf_cells.specs.declared.cell.CellId.{CellId}
 

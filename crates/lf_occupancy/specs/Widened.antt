@@ -1,6 +1,6 @@
 -- The strips that a value of the type `WidenedStrips` refers to.
 use Rattle.std.specs.Prelude.{List}
-use Rattle.lf_frame_index.specs.declared.strip.Strip.{Strip}
+use Rattle.lf_segments.specs.declared.strip.Strip.{Strip}
 use Rattle.lf_occupancy.specs.declared.widened.WidenedStrips.{WidenedStrips}
 use Rattle.lf_occupancy.specs.Strips.{widened_strips}
 

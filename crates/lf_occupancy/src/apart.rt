@@ -1,7 +1,7 @@
 //! The cells of a row that keep the padding from all other cells of their team.
 
 ghost use Rattle.std.specs.Prelude.{◌≡◌, ◌<◌, ◌≤◌, ◌*ℤ◌, ◌≤ℤ◌, ℕ, All, IfOk, IsSomeAnd, IsTrue, OnOk, length, pos, slice_index_or, []};
-ghost use Rattle.lf_frame_index.specs.Indexes.{IsInside};
+ghost use Rattle.lf_segments.specs.Indexes.{IsInside};
 ghost use Rattle.lf_rules.specs.Padding.{wider};
 ghost use Rattle.lf_occupancy.specs.declared.strip_marks.Mark.{Mark};
 ghost use Rattle.lf_occupancy.specs.MarkLists.{AreRising, EndUpTo};

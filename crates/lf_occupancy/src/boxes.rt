@@ -8,8 +8,8 @@ ghost use Rattle.lf_occupancy.specs.Views.{cell_box};
 
 use lf_cells::{CellId, CellTable};
 use lf_floorplan::Frame;
-use lf_frame_index::FrameIndex;
 use lf_rules::box_with_points;
+use lf_segments::FrameIndex;
 use lf_units::Rect;
 use std::marker::Model;
 

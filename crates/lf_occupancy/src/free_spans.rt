@@ -3,9 +3,9 @@
 
 ghost use Rattle.std.specs.Prelude.{◌≡◌, OnOk};
 ghost use Rattle.std.specs.Int.{int_max, int_min};
-ghost use Rattle.lf_spans.specs.Steps.{AddsFilled, IsBefore, IsAfter};
+ghost use Rattle.lf_units.specs.Steps.{AddsFilled, IsBefore, IsAfter};
 
-use lf_spans::Span;
+use lf_units::Span;
 use std::alloc::AllocError;
 
 /// The range that two spans have in common.

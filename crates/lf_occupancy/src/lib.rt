@@ -17,8 +17,7 @@
 //!
 //! Lists of free spans rise: each span holds a number, and ends no later than the next ones begin.
 //!
-//! Used by `lf_legalize`, `lf_placement`, `lf_repair_bounds`, `lf_state_restore`, `lf_floor_verbs`
-//! and `lf_floor`.
+//! Used by `lf_legalize`, `lf_placement`, `lf_repair_bounds`, `lf_floor` and `lf_floor_verbs`.
 //!
 //! Modules, in reading order:
 //!
@@ -37,7 +36,7 @@
 //! - `occupancy`: the strips of a frame with their marks
 //! - `laws`: laws on strips
 //!
-//! From `crates/lf_tests_placement/src/strips.rt`:
+//! From `crates/lf_tests_floor/src/strips.rt`:
 //!
 //! ```
 //! let window = Span { lo: 200, hi: 1000 };

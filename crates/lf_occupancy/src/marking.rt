@@ -13,7 +13,7 @@ use crate::boxes::CellBox;
 use crate::strip_marks::{StripMarks, make_room, put_in, unmark};
 use crate::widened::{DistinctRows, WidenedStrips, distinct_rows, widened_area, widened_strips};
 use lf_cells::CellId;
-use lf_frame_index::{RowEntry, StripRange};
+use lf_segments::{RowEntry, StripRange};
 use lf_units::Rect;
 use std::alloc::AllocError;
 

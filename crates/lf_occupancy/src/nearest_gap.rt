@@ -1,7 +1,7 @@
 //! The nearest place between the marks of strips, found without a list of free spans.
 
 ghost use Rattle.std.specs.Prelude.{◌≤ℤ◌, All, length, negsuc, pos};
-ghost use Rattle.lf_spans.specs.Spans.{IsFree, IsFreeIn, IsInOrder};
+ghost use Rattle.lf_units.specs.Spans.{IsFree, IsFreeIn, IsInOrder};
 ghost use Rattle.lf_gaps.specs.Gaps.{FindsGap};
 ghost use Rattle.lf_rules.specs.Padding.{HasRoomAround};
 ghost use Rattle.lf_occupancy.specs.MarkLists.{HasPoints, all_padded, others_in, spans_in};

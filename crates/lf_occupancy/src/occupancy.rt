@@ -3,7 +3,7 @@
 ghost use Rattle.std.specs.Prelude.{◌≡◌, ◌≢◌, ◌≤ℤ◌, ◌*ℤ◌, [], All, IfOk, IfSome, List, None, OnOk, Option, Some, length, map, pos, slice_index_or, slice_set, ℕ};
 ghost use Rattle.std.specs.Vec.{vec_len};
 ghost use Rattle.lf_units.specs.declared.geometry.Rect.{Rect};
-ghost use Rattle.lf_frame_index.specs.Indexes.{IsIndexOf};
+ghost use Rattle.lf_segments.specs.Indexes.{IsIndexOf};
 ghost use Rattle.lf_occupancy.specs.Floorplans.{HaveSize, IsMarkedBy, boxes_in};
 ghost use Rattle.lf_occupancy.specs.MarkLists.{IsPlaceX};
 ghost use Rattle.lf_occupancy.specs.Views.{AreFreeSpans, Bounds, FitIn, HasRoomFor, IsPaddingOf, KeepsCapacities, cell_box};
@@ -18,7 +18,7 @@ use crate::strip_marks::StripMarks;
 use crate::widened::WidenedStrips;
 use lf_cells::{CellId, CellTable};
 use lf_floorplan::Frame;
-use lf_frame_index::FrameIndex;
+use lf_segments::FrameIndex;
 use lf_units::{Rect, Span};
 use std::alloc::{AllocError, Global};
 use std::marker::Model;

@@ -11,7 +11,7 @@ ghost use Rattle.lf_occupancy.specs.StripCounting.{AreShifted, HaveRoomForCounts
 
 use crate::strip_marks::{StripMarks, has_points, make_room, part_of};
 use crate::widened::{DistinctRows, WidenedStrips, distinct_rows, widened_area, widened_strips};
-use lf_frame_index::StripRange;
+use lf_segments::StripRange;
 use lf_units::Rect;
 use std::alloc::{AllocError, Global};
 use std::marker::Model;

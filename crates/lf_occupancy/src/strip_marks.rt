@@ -2,7 +2,7 @@
 
 ghost use Rattle.std.specs.Prelude.{[], All, List, Option, ◌≡◌, ◌↔◌, ◌<◌, ◌≤◌, ◌≤ℤ◌, ◌<ℤ◌, ◌+◌, ◌+ℤ◌, ◌-ℤ◌, ◌*ℤ◌, ℕ, IfOk, IsTrue, MatchOption, OnOk, insert, length, negsuc, pos, slice_index_or};
 ghost use Rattle.std.specs.Vec.{vec_capacity, vec_len};
-ghost use Rattle.lf_spans.specs.Spans.{IsFree, IsFreeIn, IsInOrder};
+ghost use Rattle.lf_units.specs.Spans.{IsFree, IsFreeIn, IsInOrder};
 ghost use Rattle.lf_rules.specs.Padding.{HasRoomAround, IsShort};
 ghost use Rattle.lf_units.specs.declared.geometry.Rect.{Rect};
 ghost use Rattle.lf_occupancy.specs.declared.strip_marks.Mark.{Mark};
@@ -15,8 +15,7 @@ ghost use Rattle.lf_occupancy.specs.MarkLists.{TakesPart, wider_range, x_range};
 use crate::boxes::CellBox;
 use crate::free_spans::{common_range, part_after, part_before, push_filled};
 use crate::marked_strips::{CellPadding, CoveredPart, MarkedStrip};
-use lf_spans::{Span, free_in};
-use lf_units::Rect;
+use lf_units::{Rect, Span, free_in};
 use std::alloc::{AllocError, Global};
 
 /// The part of a widened strip that the box of a cell covers, in database units. It has at least

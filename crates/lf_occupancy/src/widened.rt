@@ -1,14 +1,14 @@
 //! The strips of a frame, widened by 16 core sites, the greatest padding.
 
 ghost use Rattle.std.specs.Prelude.{◌≡◌, ◌≢◌, ◌<◌, ◌*ℤ◌, AllPairs, length, pos, slice_index_or};
-ghost use Rattle.lf_frame_index.specs.declared.strip.Strip.{Strip};
-ghost use Rattle.lf_frame_index.specs.Strips.{AreNear, AreRowsNear};
+ghost use Rattle.lf_segments.specs.declared.strip.Strip.{Strip};
+ghost use Rattle.lf_segments.specs.Strips.{AreNear, AreRowsNear};
 ghost use Rattle.lf_rules.specs.Padding.{IsShort};
 ghost use Rattle.lf_occupancy.specs.MarkLists.{IsNearZero};
 ghost use Rattle.lf_occupancy.specs.Strips.{IsSiteWidth, widened_strips};
 
-use lf_frame_index::{FrameIndex, RowEntry, StripRange};
 use lf_rules::widen;
+use lf_segments::{FrameIndex, RowEntry, StripRange};
 use lf_units::Rect;
 
 /// A bound: no widened strip lies farther from 0 along x.

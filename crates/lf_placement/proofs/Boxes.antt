@@ -8,7 +8,7 @@ use Rattle.lf_floorplan.specs.declared.frame.Frame.{Frame}
 use Rattle.lf_cells.specs.declared.cell.Cell.{Cell}
 use Rattle.lf_cells.specs.declared.cell.CellId.{CellId}
 use Rattle.lf_cells.specs.Cells.{Cells, id_in, id_of, working_at}
-use Rattle.lf_frame_index.specs.Indexes.{FrameIndexView}
+use Rattle.lf_segments.specs.Indexes.{FrameIndexView}
 use Rattle.lf_occupancy.specs.Views.{FitIn, HasRoomFor, Occupied, box_in_team, boxes_of, boxes_with, cell_box, widened, reach}
 use Rattle.lf_occupancy.specs.Strips.{HasCell}
 use Rattle.lf_occupancy.specs.Floorplans.{working_box_of}

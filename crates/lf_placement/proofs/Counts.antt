@@ -9,7 +9,7 @@ use Rattle.lf_floorplan.specs.declared.place.Place.{Place}
 use Rattle.lf_cells.specs.declared.cell.Cell.{Cell}
 use Rattle.lf_cells.specs.declared.cell.CellId.{CellId}
 use Rattle.lf_cells.specs.Cells.{id_of, moved}
-use Rattle.lf_frame_index.specs.declared.strip.Strip.{Strip}
+use Rattle.lf_segments.specs.declared.strip.Strip.{Strip}
 use Rattle.lf_occupancy.specs.Views.{FitIn, HasRoomFor, Occupied, boxes_of, count_in, widened, does_overlap, reach}
 use Rattle.lf_occupancy.specs.Floorplans.{working_box_of}
 use Rattle.lf_occupancy.proofs.Counting.{overlaps_shares, set_is_one_more}

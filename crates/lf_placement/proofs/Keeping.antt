@@ -15,7 +15,7 @@ use Rattle.lf_cells.specs.declared.cell.Cell.{Cell}
 use Rattle.lf_cells.specs.Cells.{Cells, as_committed, cells_of}
 use Rattle.lf_cells.specs.Initial.{initial_cell, initial_cells, own_cells, team_numbers}
 use Rattle.lf_legalize.specs.Members.{IsSizedCell}
-use Rattle.lf_frame_index.specs.Indexes.{IsIndexOf, FrameIndexView}
+use Rattle.lf_segments.specs.Indexes.{IsIndexOf, FrameIndexView}
 use Rattle.lf_occupancy.specs.Strips.{Marked, capacities_in}
 use Rattle.lf_occupancy.specs.Views.{FitIn, KeepsCapacities, Occupied, boxes_of}
 use Rattle.lf_occupancy.specs.Floorplans.{IsOccupancyOf, working_box_of, boxes_in}

@@ -8,7 +8,7 @@ use Rattle.lf_floorplan.specs.declared.frame.Frame.{Frame}
 use Rattle.lf_cells.specs.declared.cell.Cell.{Cell}
 use Rattle.lf_cells.specs.declared.cell.CellId.{CellId}
 use Rattle.lf_cells.specs.Cells.{Cells, cells_of, id_in, id_of}
-use Rattle.lf_frame_index.specs.Indexes.{IsIndexOf, FrameIndexView}
+use Rattle.lf_segments.specs.Indexes.{IsIndexOf, FrameIndexView}
 use Rattle.lf_occupancy.specs.Views.{HasRoomFor, Occupied, boxes_of, cell_box}
 use Rattle.lf_occupancy.specs.Floorplans.{IsMarkedBy, IsOccupancyOf, working_box_of, boxes_in}
 use Rattle.lf_occupancy.specs.Strips.{CanEnter, CanLeave, MarksBoxes, HasBoxOrNone, HasNoBox, Marked, widened_strips, with_boxes, capacities_in}

@@ -10,8 +10,8 @@ use Rattle.lf_units.specs.declared.geometry.Rect.{Rect}
 use Rattle.lf_units.specs.Area.{Covers, SharesPoint}
 use Rattle.lf_floorplan.specs.declared.frame.Frame.{Frame}
 use Rattle.lf_floorplan.specs.declared.place.Place.{Place}
-use Rattle.lf_rtree.specs.declared.placed.Placed.{Placed}
-use Rattle.lf_rtree.specs.Near.{IsLeastOverlapping, IsNoneOverlapping}
+use Rattle.lf_units.specs.declared.placed.Placed.{Placed}
+use Rattle.lf_units.specs.Near.{IsLeastOverlapping, IsNoneOverlapping}
 use Rattle.lf_rules.specs.declared.rule.Rule.TheVariants.{Overlap}
 use Rattle.lf_rules.specs.Choice.{SpotPlace, spot_of}
 use Rattle.lf_rules.specs.Legality.{IsFirstOverlapping as IsFirstOverlappingOf, Candidate, box_of as box_of_candidate, padded_box}
@@ -29,7 +29,7 @@ use Rattle.lf_cells.specs.declared.cell.Cell.{Cell}
 use Rattle.lf_cells.specs.declared.cell.CellId.{CellId}
 use Rattle.lf_cells.specs.Cells.{Cells, cells_of}
 use Rattle.lf_legalize.specs.Members.{member_of}
-use Rattle.lf_frame_index.specs.declared.strip.Strip.{Strip}
+use Rattle.lf_segments.specs.declared.strip.Strip.{Strip}
 use Rattle.lf_occupancy.specs.Views.{IsFirstOverlappingCell, OverlapsInStrips, Occupied, box_in_team, reach}
 use Rattle.lf_occupancy.specs.Floorplans.{IsOccupancyOf, WidenedStripsCover, working_box_of}
 

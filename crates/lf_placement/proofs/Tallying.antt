@@ -10,7 +10,7 @@ use Rattle.lf_rules.specs.Team.{box_in}
 use Rattle.lf_cells.specs.declared.cell.Cell.{Cell}
 use Rattle.lf_cells.specs.declared.cell.CellId.{CellId}
 use Rattle.lf_cells.specs.Cells.{AreAllIds, Cells, cells_of, committed_at, working_at}
-use Rattle.lf_frame_index.specs.Indexes.{IsIndexOf}
+use Rattle.lf_segments.specs.Indexes.{IsIndexOf}
 use Rattle.lf_occupancy.specs.Floorplans.{boxes_in}
 use Rattle.lf_occupancy.specs.Views.{Bounds, FitIn, KeepsCapacities, Occupied, cell_box}
 use Rattle.lf_occupancy.specs.Strips.{Marked, with_boxes, capacities_in}

@@ -11,8 +11,8 @@ use crate::counted_capacity::fit_all_committed;
 use crate::sized_cells::SizedCells;
 use lf_cells::CellTable;
 use lf_floorplan::{Frame, Loaded};
-use lf_frame_index::FrameIndex;
 use lf_occupancy::Occupancy;
+use lf_segments::FrameIndex;
 use std::alloc::{AllocError, Global};
 
 /// The frame, the cells of all teams, and the marks of the placed cells.

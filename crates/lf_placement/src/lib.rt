@@ -30,7 +30,7 @@
 //! - `placement`: the placement and its operations
 //! - `laws`: what stays true through changes
 //!
-//! From `crates/lf_tests_placement/src/strips.rt`:
+//! From `crates/lf_tests_floor/src/strips.rt`:
 //!
 //! ```
 //! moves.push(Move::new(id.own, to))?;

@@ -8,7 +8,7 @@ use Rattle.lf_floorplan.specs.declared.macros.Macro.{Macro}
 use Rattle.lf_floorplan.specs.declared.loaded.LoadedCell.{LoadedCell}
 use Rattle.lf_floorplan.specs.declared.loaded.Loaded.{Loaded}
 use Rattle.lf_floorplan.specs.Boxes.{IsSized, macro_of, no_macro}
-use Rattle.lf_rtree.specs.declared.placed.Placed.{Placed}
+use Rattle.lf_units.specs.declared.placed.Placed.{Placed}
 use Rattle.lf_rules.specs.Choice.{IsChoice, PlacementQuery, SpotPlace, spot_of}
 use Rattle.lf_rules.specs.Legalizer.{Legalizer}
 use Rattle.lf_rules.specs.Team.{boxes_beside, boxes_from, query_from, with_box}

@@ -7,7 +7,7 @@ use Rattle.lf_floorplan.specs.declared.macros.Macro.{Macro}
 use Rattle.lf_floorplan.specs.Boxes.{size_of}
 use Rattle.lf_floorplan.specs.Sizes.{box_at}
 use Rattle.lf_floorplan.specs.RowSupport.{BottomRowIsUnique}
-use Rattle.lf_frame_index.specs.Indexes.{FrameIndexView, IsIndexOf}
+use Rattle.lf_segments.specs.Indexes.{FrameIndexView, IsIndexOf}
 use Rattle.lf_repair_bounds.specs.ImpossibleMacros.{FitsUpright, HasNoHeight, HasNoRow, HasNoWidth, IsMacroHigh}
 use Rattle.lf_repair_bounds.specs.Searched.{HasWideSegment}
 

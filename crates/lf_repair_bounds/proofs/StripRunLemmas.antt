@@ -11,8 +11,8 @@ use Rattle.lf_units.specs.declared.geometry.Rect.{Rect}
 use Rattle.lf_units.specs.Area.{SharesPoint}
 use Rattle.lf_floorplan.specs.declared.frame.Frame.{Frame}
 use Rattle.lf_floorplan.specs.declared.parts.Row.{Row}
-use Rattle.lf_rtree.specs.declared.placed.Placed.{Placed}
-use Rattle.lf_rtree.specs.Near.{AreAllOverlapping}
+use Rattle.lf_units.specs.declared.placed.Placed.{Placed}
+use Rattle.lf_units.specs.Near.{AreAllOverlapping}
 use Rattle.lf_repair_bounds.specs.declared.site_runs.SiteRange.{SiteRange}
 use Rattle.lf_repair_bounds.specs.FreeRuns.{AreCovered, CoversSites, HasSites, IsStripRun, IsWidestIn, LiesOnRow, site_end}
 use Rattle.lf_repair_bounds.specs.Gaps.{sites_area}

@@ -14,10 +14,10 @@ use Rattle.lf_floorplan.specs.declared.frame.Frame.{Frame}
 use Rattle.lf_floorplan.specs.declared.parts.Row.{Row}
 use Rattle.lf_floorplan.specs.Ground.{InGround}
 use Rattle.lf_floorplan.specs.Rows.{IsCoreRow, row_area}
-use Rattle.lf_frame_index.specs.declared.strip.Strip.{Strip}
-use Rattle.lf_frame_index.specs.Indexes.{FrameIndexView, IsIndexOf}
-use Rattle.lf_frame_index.specs.Strips.{row_y, strip_of}
-use Rattle.lf_rtree.specs.declared.placed.Placed.{Placed}
+use Rattle.lf_segments.specs.declared.strip.Strip.{Strip}
+use Rattle.lf_segments.specs.Indexes.{FrameIndexView, IsIndexOf}
+use Rattle.lf_segments.specs.Strips.{row_y, strip_of}
+use Rattle.lf_units.specs.declared.placed.Placed.{Placed}
 use Rattle.lf_repair_bounds.specs.declared.near_runs.RowRun.{RowRun}
 use Rattle.lf_repair_bounds.specs.FreeRuns.{AreBlockedOf, AreRunsOfStrips, AreRunsOfTeam, IsInRow, IsRunInRow, IsRunOfStrip, IsStripRun, IsUnblocked, LiesOnRow}
 use Rattle.lf_repair_bounds.specs.Gaps.{IsFreeRun, IsRowOfTeam, PlacedTeam, sites_area}

@@ -10,7 +10,7 @@ use Rattle.lf_floorplan.specs.declared.frame.Frame.{Frame}
 use Rattle.lf_floorplan.specs.declared.loaded.LoadedCell.{LoadedCell}
 use Rattle.lf_floorplan.specs.declared.place.Place.{Place}
 use Rattle.lf_floorplan.specs.Boxes.{macro_of}
-use Rattle.lf_rtree.specs.declared.placed.Placed.{Placed}
+use Rattle.lf_units.specs.declared.placed.Placed.{Placed}
 use Rattle.lf_rules.specs.Choice.{IsBest, IsChoice, PlacementQuery, IsAllowedPlace, Precedes, SpotPlace, distance, spot_of, candidate_at}
 use Rattle.lf_rules.specs.Legality.{IsFrameRuleVerdict, IsTeamLegal, Candidate, candidate_of}
 use Rattle.lf_rules.proofs.LegalParts.{frame_beside, frame_padded, legal_by_parts}

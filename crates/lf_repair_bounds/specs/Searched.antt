@@ -3,7 +3,7 @@ use Rattle.std.specs.Prelude.{◌≡◌, ℕ, ◌+ℤ◌, ◌≤ℤ◌, ℤ, Lis
 use Rattle.lf_floorplan.specs.declared.frame.Frame.{Frame}
 use Rattle.lf_floorplan.specs.declared.loaded.LoadedCell.{LoadedCell}
 use Rattle.lf_floorplan.specs.Boxes.{macro_of}
-use Rattle.lf_frame_index.specs.Indexes.{FrameIndexView}
+use Rattle.lf_segments.specs.Indexes.{FrameIndexView}
 use Rattle.lf_repair_bounds.specs.declared.reasons.ImpossibleReason.{ImpossibleReason}
 use Rattle.lf_repair_bounds.specs.declared.reasons.ImpossibleMacro.{ImpossibleMacro}
 use Rattle.lf_repair_bounds.specs.declared.impossible.CheckedMacro.{CheckedMacro}

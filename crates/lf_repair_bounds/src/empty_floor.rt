@@ -10,8 +10,8 @@ ghost use Rattle.lf_repair_bounds.specs.EmptyFloors.{AreUnplaced, IsEmptyTable, 
 use crate::frame_copy::{clone_frame, frame_without_soft};
 use lf_cells::{CellId, CellTable};
 use lf_floorplan::{CellRef, Frame, Loaded, LoadedCells, PackedPlace, UnnamedCell};
-use lf_frame_index::FrameIndex;
 use lf_occupancy::Occupancy;
+use lf_segments::FrameIndex;
 use std::alloc::{AllocError, Global};
 use std::marker::Model;
 

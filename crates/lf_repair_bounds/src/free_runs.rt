@@ -2,7 +2,7 @@
 
 ghost use Rattle.std.specs.Prelude.{◌≡◌, ◌↔◌, ◌*◌, ◌^◌, ◌<◌, ◌≤◌, ◌-ℤ◌, ◌≤ℤ◌, ◌<ℤ◌, ℕ, pos, All, IfOk, IsTrue, Some, length, slice_get};
 ghost use Rattle.lf_units.specs.Area.{SharesPoint};
-ghost use Rattle.lf_frame_index.specs.Indexes.{IsIndexOf};
+ghost use Rattle.lf_segments.specs.Indexes.{IsIndexOf};
 ghost use Rattle.lf_cells.specs.Cells.{cells_of};
 ghost use Rattle.lf_legalize.specs.Members.{IsSizedCell};
 ghost use Rattle.lf_repair_bounds.specs.FreeRuns.{AreCovered, AreRunsOfStrips, AreRunsOfTeam, CoversSites, HasSites, IsInRow, IsRunOfStrip, IsWidestIn, LiesOnRow};
@@ -14,11 +14,10 @@ use crate::near_runs::RowRun;
 use crate::site_runs::{SiteRange, longest_run, sort_ranges};
 use lf_cells::CellTable;
 use lf_floorplan::{Frame, Row};
-use lf_frame_index::{FrameIndex, Strip};
 use lf_placement::Placement;
-use lf_rtree::RTree;
 use lf_rules::{Padding, Placed};
-use lf_units::Rect;
+use lf_segments::{FrameIndex, Strip};
+use lf_units::{RTree, Rect};
 use std::alloc::{AllocError, Global};
 
 /// The width of a site, in database units.

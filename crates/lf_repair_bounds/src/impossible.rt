@@ -4,7 +4,7 @@ ghost use Rattle.std.specs.Prelude.{◌≡◌, ◌≤◌, Any, IfOk, IsTrue, OnO
 ghost use Rattle.lf_floorplan.specs.Boxes.{macro_of};
 ghost use Rattle.lf_floorplan.specs.Design.{IsCell};
 ghost use Rattle.lf_floorplan.specs.LoadedCells.{borrowed_cell};
-ghost use Rattle.lf_frame_index.specs.Indexes.{IsIndexOf};
+ghost use Rattle.lf_segments.specs.Indexes.{IsIndexOf};
 ghost use Rattle.lf_repair_bounds.specs.Copies.{AreCopies};
 ghost use Rattle.lf_repair_bounds.specs.ImpossibleMacros.{AreImpossibleMacros, HasCellOf, HasReason, is_listed as is_in_list};
 ghost use Rattle.lf_repair_bounds.specs.Searched.{ChecksOne, Decides, IsVerdictOn};
@@ -13,8 +13,8 @@ use crate::empty_floor::{EmptyFloor, empty_floor, hard_design};
 use crate::nearest_place::{LoneCell, nearest};
 use crate::reasons::{ImpossibleMacro, ImpossibleReason, reason_of};
 use lf_floorplan::{CellRef, Frame, Loaded, mac_at};
-use lf_frame_index::FrameIndex;
 use lf_legalize::anchor;
+use lf_segments::FrameIndex;
 use std::alloc::{AllocError, Global};
 
 /// A macro that was searched for in a team.

@@ -16,7 +16,7 @@
 //! The other searches run on a floor without cells (`EmptyFloor`), with the search for best places.
 //! The crate also copies frames (`clone_frame`).
 //!
-//! Used by `lf_repair_team`, `lf_repair_report`, `lf_task_files` and `lf_task_repair`.
+//! Used by `lf_repair_team`, `lf_task_reports`, `lf_task_files` and `lf_task_repair`.
 //!
 //! Modules, in reading order:
 //!

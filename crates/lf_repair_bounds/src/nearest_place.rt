@@ -12,9 +12,9 @@ ghost use Rattle.lf_repair_bounds.specs.MinDisplacements.{query_alone};
 use crate::empty_floor::{EmptyFloor, id_of};
 use lf_cells::CellId;
 use lf_floorplan::{CellRef, Frame, Place, mac_at};
-use lf_frame_index::IndexedFrame;
 use lf_legalize::{IndexSeeker, Seeker, best_place};
 use lf_rules::{Padding, broken_frame_rule, legalizer_exists};
+use lf_segments::IndexedFrame;
 use lf_units::Point;
 use std::alloc::{AllocError, Global};
 

@@ -4,14 +4,14 @@ ghost use Rattle.std.specs.Prelude.{◌≡◌, ◌↔◌, ◌<ℤ◌, pos, Any, 
 ghost use Rattle.lf_floorplan.specs.Boxes.{IsSized, size_of};
 ghost use Rattle.lf_floorplan.specs.Sizes.{box_at};
 ghost use Rattle.lf_rules.specs.Solid.{IsSolid};
-ghost use Rattle.lf_frame_index.specs.Indexes.{IsIndexOf};
+ghost use Rattle.lf_segments.specs.Indexes.{IsIndexOf};
 ghost use Rattle.lf_repair_bounds.specs.ImpossibleMacros.{FitsOnRow, FitsUpright, HasReason};
 ghost use Rattle.lf_repair_bounds.specs.Searched.{HasWideSegment, IsWideFor};
 
 use lf_floorplan::{Frame, Macro, Place, Row, bottom_row_is_unique};
-use lf_frame_index::FrameIndex;
 use lf_orient::Orient;
 use lf_rules::{box_with_points, height_in_sites, is_on_rail, is_oriented};
+use lf_segments::FrameIndex;
 use lf_units::{Rect, Span};
 
 /// Why no place can hold the cells of a macro in a team: the first of these that is true.

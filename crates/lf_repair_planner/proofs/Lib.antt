@@ -1,1 +1,5 @@
+pub mod Grown
+pub mod Looking
+pub mod Packed
+pub mod Shapes
 mod Noting

@@ -1,9 +1,9 @@
 //! The spans that a try has changed, to take its changes back.
 
+use crate::packed_span::PackedSpan;
 use crate::passes::PlannerInput;
 use crate::plan_state::Gap;
 use crate::tall::span_above;
-use lf_repair_packing::PackedSpan;
 use std::alloc::{AllocError, Global};
 
 /// A span as it was before a try.

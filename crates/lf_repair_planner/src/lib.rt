@@ -6,10 +6,21 @@
 //! least, and its neighbors make room. At the end cells of equal width exchange places. No contract
 //! says how good a plan is: a floor tests each place that is requested of it.
 //!
-//! Used by `lf_repair_strategy`, `lf_wire_board`, `lf_wire_improver` and `lf_improve_strategy`.
+//! A `PackedSpan` has the cells of one free span, counted in sites from its first one. An
+//! `Insertion` says what one more cell costs in a gap, and at which site; no contract says how good
+//! it is. Whatever place is requested, `insert` keeps the cells within the span and apart. It
+//! returns by how much their total displacement from their targets grows, which is exact.
+//!
+//! Used by `lf_repair_strategy` and `lf_improve_strategy`.
 //!
 //! Modules, in reading order:
 //!
+//! - `packed_cell`: a cell in a span
+//! - `cost_curve`: the cost of moving one cell along its row
+//! - `packed_insertion`: the cost of one more cell in a gap
+//! - `push_apart`: cells moved apart between two sites
+//! - `shifted_window`: the cells that make room for one more
+//! - `packed_span`: the cells of one free span
 //! - `free_rows`: the free spans of a team's rows
 //! - `search_limits`: the limits of a search, and the cost of a displacement
 //! - `plan_state`: the places of the cells so far
@@ -35,20 +46,30 @@
 #![tactic(auto)]
 
 mod changes;
+mod cost_curve;
 mod free_rows;
 mod order;
+mod packed_cell;
+mod packed_insertion;
+mod packed_span;
 mod passes;
 mod plan;
 mod plan_state;
+mod push_apart;
 mod recreate;
 mod scored_plan;
 mod scramble;
 mod search;
 mod search_limits;
+mod shifted_window;
 mod swaps;
 mod tall;
 mod window;
 
+pub use cost_curve::{CostCurve, Least};
 pub use free_rows::{FreeRows, FreeSpan, PlannerRow, RowKind, RowKinds};
+pub use packed_cell::PackedCell;
+pub use packed_insertion::{Insertion, RowGap, SearchEffort, SiteRange};
+pub use packed_span::PackedSpan;
 pub use plan::{PlanOptions, PlannedSite, PlannerCell, plan_cells};
 pub use recreate::{RecreateOptions, recreate_plan};

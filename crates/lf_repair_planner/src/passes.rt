@@ -1,11 +1,13 @@
 //! Places all cells, and improves their places in passes.
 
+use crate::cost_curve::CostCurve;
 use crate::free_rows::{FreeRows, FreeSpan, PlannerRow};
+use crate::packed_cell::PackedCell;
+use crate::packed_span::PackedSpan;
 use crate::plan::PlannerCell;
 use crate::plan_state::{Gap, PlanState};
 use crate::search::{Best, Search, best_gap};
 use crate::search_limits::{SearchLimits, apart, cost_of, number_of};
-use lf_repair_packing::{CostCurve, PackedCell, PackedSpan};
 use std::alloc::{AllocError, Global};
 
 /// The input that all steps read.

@@ -3,13 +3,15 @@
 ghost use Rattle.std.specs.Prelude.{◌≡◌, ◌⊎◌, ◌+◌, ◌-◌, ◌*◌, ◌<◌, ◌^◌, IfOk, IsTrue, None, Some, length, set, slice_get, vec_len};
 ghost use Rattle.lf_repair_planner.specs.Plans.{IsFilledTo, IsPlan};
 
+use crate::cost_curve::CostCurve;
 use crate::free_rows::{FreeRows, RowKinds};
 use crate::order::{OrderKeys, widest_first};
+use crate::packed_cell::PackedCell;
+use crate::packed_span::PackedSpan;
 use crate::passes::{PlanCost, PlannerInput, nearest_alone, rows_of_spans};
 use crate::plan_state::{PlanState, empty_segments};
 use crate::scored_plan::{ScoredPlan, initial_limits, try_order};
 use crate::search_limits::number_of;
-use lf_repair_packing::{CostCurve, PackedCell, PackedSpan};
 use std::alloc::{AllocError, Global};
 
 /// A cell: its target and its width, in database units, and the rows on which it may be placed. If

@@ -1,12 +1,13 @@
 //! The places of the cells of a plan so far.
 
 use crate::free_rows::FreeRows;
+use crate::packed_cell::PackedCell;
+use crate::packed_span::PackedSpan;
 use crate::passes::{PlannerInput, displacement_at_site};
 use crate::plan::PlannedSite;
 use crate::search::placed_at;
 use crate::search_limits::number_of;
 use crate::tall::{cell_in, gap_at, span_above};
-use lf_repair_packing::{PackedCell, PackedSpan};
 use std::alloc::{AllocError, Global};
 
 /// A place in the free rows: the span, the gap between the cells there, and the cell with its site.

@@ -9,6 +9,7 @@ ghost use Rattle.std.specs.Prelude.{◌≡◌, IfOk, length, vec_len};
 ghost use Rattle.lf_repair_planner.specs.Plans.{IsPlan};
 
 use crate::changes::Changes;
+use crate::cost_curve::CostCurve;
 use crate::free_rows::FreeRows;
 use crate::passes::{
     PlannerInput, displacement_at, displacement_at_site, long_displacement, rows_of_spans,
@@ -19,7 +20,6 @@ use crate::scramble::Scramble;
 use crate::search::{Best, Search, best_gap};
 use crate::search_limits::{SearchLimits, cost_of, number_of};
 use crate::window::list_window;
-use lf_repair_packing::CostCurve;
 use std::alloc::{AllocError, Global};
 
 /// How a plan is improved.

@@ -3,12 +3,12 @@
 ghost use Rattle.std.specs.Prelude.{◌≡◌, IfOk, length, vec_len};
 ghost use Rattle.lf_repair_planner.specs.Plans.{IsPlan};
 
+use crate::cost_curve::CostCurve;
 use crate::passes::{PlanCost, PlannerInput, cost_of_plan, long_displacement, pass, place_all};
 use crate::plan::{PlanOptions, PlannedSite, spots_of};
 use crate::plan_state::PlanState;
 use crate::search_limits::SearchLimits;
 use crate::swaps::swap_cells;
-use lf_repair_packing::CostCurve;
 use std::alloc::{AllocError, Global};
 
 /// A plan and its cost.

@@ -5,12 +5,15 @@
 
 ghost use Rattle.std.specs.Prelude.{◌<ℤ◌, pos};
 
+use crate::cost_curve::CostCurve;
 use crate::free_rows::{FreeRows, FreeSpan, PlannerRow};
+use crate::packed_cell::PackedCell;
+use crate::packed_insertion::SearchEffort;
+use crate::packed_span::PackedSpan;
 use crate::plan::PlannerCell;
 use crate::plan_state::Gap;
 use crate::search_limits::{SearchLimits, apart, cost_of};
 use crate::tall::try_tall_span;
-use lf_repair_packing::{CostCurve, PackedCell, PackedSpan, SearchEffort};
 use std::alloc::AllocError;
 
 /// A cell to place, and the spans to search.

@@ -3,12 +3,13 @@
 ghost use Rattle.std.specs.Prelude.{◌≡◌};
 
 use crate::free_rows::{FreeSpan, PlannerRow};
+use crate::packed_cell::PackedCell;
+use crate::packed_span::PackedSpan;
 use crate::passes::{PlannerInput, displacement_at_site};
 use crate::plan::{PlannedSite, PlannerCell};
 use crate::plan_state::PlanState;
 use crate::search::{clipped, site_at};
 use crate::search_limits::{SearchLimits, cost_of, number_of};
-use lf_repair_packing::{PackedCell, PackedSpan};
 
 /// The greatest distance of the other cell from a cell's target along the row, in sites.
 const REACH: i64 = 16;

@@ -3,11 +3,14 @@
 //! A cell of several rows takes the same sites of each of its rows. It is listed in a span of each, and no search
 //! pushes it there. Only in its lowest row it has its own number.
 
+use crate::cost_curve::CostCurve;
 use crate::free_rows::FreeRows;
+use crate::packed_cell::PackedCell;
+use crate::packed_insertion::{RowGap, SiteRange};
+use crate::packed_span::PackedSpan;
 use crate::passes::PlannerInput;
 use crate::plan_state::Gap;
 use crate::search::{Best, Search, SpanCandidate, clipped};
-use lf_repair_packing::{CostCurve, PackedCell, PackedSpan, RowGap, SiteRange};
 use std::alloc::AllocError;
 
 /// A span that a cell covers. Its first site is `shift` sites left of that of the cell's lowest span.

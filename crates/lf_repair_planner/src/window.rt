@@ -1,12 +1,12 @@
 //! The cells of a window around a cell or around its target.
 
 use crate::free_rows::{FreeSpan, PlannerRow};
+use crate::packed_cell::PackedCell;
 use crate::passes::PlannerInput;
 use crate::plan::PlannerCell;
 use crate::plan_state::{Gap, PlanState};
 use crate::scramble::Scramble;
 use crate::tall::upper_number;
-use lf_repair_packing::PackedCell;
 use std::alloc::AllocError;
 
 /// The least number of sites of a window on each side of its middle.

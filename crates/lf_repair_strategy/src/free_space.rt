@@ -3,11 +3,10 @@
 ghost use Rattle.std.specs.Prelude.{◌<ℤ◌, negsuc};
 
 use lf_floorplan::Frame;
-use lf_frame_index::IndexedFrame;
 use lf_orient::Orient;
 use lf_repair_planner::{FreeRows, FreeSpan, PlannerRow, RowKind};
 use lf_rules::Padding;
-use lf_segments::Segment;
+use lf_segments::{IndexedFrame, Segment};
 use std::alloc::{AllocError, Global};
 
 /// A team, by its number, and the padding of its cells, in database units.

@@ -8,7 +8,7 @@
 //! tests each place that is requested of it.
 //!
 //! `RepairStats` is the result of repairing a team. `lf_repair_team` counts it, and
-//! `lf_repair_report` prints it.
+//! `lf_task_reports` prints it.
 //!
 //! Used by most other crates.
 //!

@@ -26,7 +26,7 @@
 //! - `team`: the repair of one team
 //! - `laws`: a law on the runs of a team
 //!
-//! From `crates/lf_tests_repair/src/repairs.rt`:
+//! From `crates/lf_tests_floor/src/repairs.rt`:
 //!
 //! ```
 //! let mut lines = ToWrite::new(writer);

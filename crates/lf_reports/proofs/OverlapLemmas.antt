@@ -5,8 +5,8 @@ use Rattle.std.specs.Prelude.{All, IsPermutation, MatchOption}
 use Rattle.std.specs.Option.{option_map}
 use Rattle.lf_units.specs.declared.geometry.Rect.{Rect}
 use Rattle.lf_units.specs.Area.{SharesPoint}
-use Rattle.lf_rtree.specs.declared.placed.Placed.{Placed}
-use Rattle.lf_rtree.specs.Near.{IsLeastOverlapping, IsNoneOverlapping}
+use Rattle.lf_units.specs.declared.placed.Placed.{Placed}
+use Rattle.lf_units.specs.Near.{IsLeastOverlapping, IsNoneOverlapping}
 use Rattle.lf_rules.specs.declared.rule.Rule.{Rule}
 use Rattle.lf_rules.specs.declared.rule.Rule.TheVariants.{Overlap}
 use Rattle.lf_rules.specs.Legality.{Candidate, IsFirstOverlapping, IsFrameRuleVerdict, padded_box}

@@ -8,7 +8,7 @@ use Rattle.lf_floorplan.specs.declared.loaded.LoadedCell.{LoadedCell}
 use Rattle.lf_floorplan.specs.declared.place.Place.{Place}
 use Rattle.lf_floorplan.specs.Bounds.{IsDesignName}
 use Rattle.lf_floorplan.specs.Boxes.{IsSized, macro_of}
-use Rattle.lf_rtree.specs.declared.placed.Placed.{Placed}
+use Rattle.lf_units.specs.declared.placed.Placed.{Placed}
 use Rattle.lf_rules.specs.declared.rule.Broken.{Broken}
 use Rattle.lf_rules.specs.declared.report_types.Listed.{Listed}
 use Rattle.lf_rules.specs.declared.report_types.Violation.{Violation}

@@ -15,13 +15,12 @@ ghost use Rattle.lf_reports.specs.Reports.{SetsVerdict, verdict_at, violation_at
 ghost use Rattle.lf_rules.specs.Team.{Member, boxes_beside, boxes_from, with_box};
 
 use lf_floorplan::{Frame, FrameQuery, Loaded, LoadedCells, Macro, Place, cell_is_sized};
-use lf_frame_index::{FrameIndex, IndexedFrame};
-use lf_rtree::{Placed, RTree};
 use lf_rules::{
     Broken, Listed, Padding, Report, Violation, box_of, broken_frame_rule, legalizer_exists,
     overlap_of, padded_box, verdict_is_unique,
 };
-use lf_units::{Name, Sequence};
+use lf_segments::{FrameIndex, IndexedFrame};
+use lf_units::{Name, Placed, RTree, Sequence};
 use std::alloc::{AllocError, Global};
 
 /// Returns the macro of a cell.

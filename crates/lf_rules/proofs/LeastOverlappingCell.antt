@@ -7,8 +7,8 @@ use Rattle.std.proofs.lemmas.List.Elements.{All-nil, All-cons, All-head, All-tai
 use Rattle.std.proofs.lemmas.List.Sorted.{All-permutation, Contains-permutation, IsPermutation-sym}
 use Rattle.lf_units.specs.declared.geometry.Rect.{Rect}
 use Rattle.lf_units.specs.Area.{SharesPoint}
-use Rattle.lf_rtree.specs.declared.placed.Placed.{Placed}
-use Rattle.lf_rtree.specs.Near.{IsLeastOverlapping, IsNoneOverlapping}
+use Rattle.lf_units.specs.declared.placed.Placed.{Placed}
+use Rattle.lf_units.specs.Near.{IsLeastOverlapping, IsNoneOverlapping}
 use Rattle.lf_floorplan.specs.declared.frame.Frame.{Frame}
 use Rattle.lf_rules.specs.Choice.{SpotPlace}
 use Rattle.lf_rules.specs.Legality.{IsFirstOverlapping}

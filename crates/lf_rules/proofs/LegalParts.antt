@@ -3,7 +3,7 @@
 use Rattle.std.proofs.Common.{◌≡◌, ◌≢◌, ◌⊎◌, ◌↔◌, ℕ, zero, suc, ◌+◌, ◌<◌, ◌≤◌, List, None, inl, inr, refl, sym, ◌∙◌, ap, subst, arith}
 use Rattle.lf_floorplan.specs.Ground.{StaysInGround, IsClear}
 use Rattle.lf_floorplan.specs.RowSupport.{RestsOnRows}
-use Rattle.lf_rtree.specs.declared.placed.Placed.{Placed}
+use Rattle.lf_units.specs.declared.placed.Placed.{Placed}
 use Rattle.lf_rules.specs.declared.rule.Rule.{Rule}
 use Rattle.lf_rules.specs.declared.rule.Rule.TheVariants.{Height, Row as RowRule, Stand, Orient as OrientRule, Rail as RailRule, Fence, Obstacle, Overlap}
 use Rattle.lf_rules.specs.Legality.{Candidate, box_of, Holds, IsApart, IsOnRail, IsOriented, IsTeamLegal, number_of, IsFirstBroken, LessPaddingKeepsLegal}

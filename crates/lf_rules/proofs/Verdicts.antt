@@ -10,7 +10,7 @@ use Rattle.lf_orient.specs.declared.Orient.TheVariants.{N, W, S, E, FN, FW, FS, 
 use Rattle.lf_orient.specs.declared.Symmetry.{Symmetry}
 use Rattle.lf_orient.specs.Orientation.{is_allowed, EqualUnder, rail_below, flipped_over_x, flipped_over_y}
 use Rattle.lf_floorplan.specs.declared.parts.Row.{Row}
-use Rattle.lf_rtree.specs.declared.placed.Placed.{Placed}
+use Rattle.lf_units.specs.declared.placed.Placed.{Placed}
 use Rattle.lf_rules.specs.declared.rule.Broken.{Broken}
 use Rattle.lf_rules.specs.Legality.{IsFirstOverlapping, Candidate, IsFirstBroken, box_of, padded_box}
 use Rattle.lf_floorplan.specs.Boxes.{IsSized, size_of}

@@ -9,7 +9,7 @@ use Rattle.lf_floorplan.specs.declared.parts.Row.{Row}
 use Rattle.lf_floorplan.specs.declared.place.Place.{Place}
 use Rattle.lf_floorplan.specs.Ground.{IsClear, StaysInGround}
 use Rattle.lf_floorplan.specs.RowSupport.{IsBottomRow, IsSitesHigh, RestsOnRows}
-use Rattle.lf_rtree.specs.declared.placed.Placed.{Placed}
+use Rattle.lf_units.specs.declared.placed.Placed.{Placed}
 use Rattle.lf_rules.specs.declared.rule.Rule.TheVariants.{Row as RowRule, Stand, Orient as OrientRule, Rail as RailRule, Fence, Obstacle}
 use Rattle.lf_rules.specs.Legality.{IsFirstBroken, Candidate, box_of, candidate_of}
 use Rattle.lf_rules.specs.Solid.{IsSolid}

@@ -14,7 +14,7 @@ use Rattle.lf_floorplan.specs.declared.place.Place.{Place}
 use Rattle.lf_floorplan.specs.Bounds.{IsDefNumber}
 use Rattle.lf_floorplan.specs.Boxes.{IsSized}
 use Rattle.lf_floorplan.specs.Ground.{OverlapsSoft}
-use Rattle.lf_rtree.specs.declared.placed.Placed.{Placed}
+use Rattle.lf_units.specs.declared.placed.Placed.{Placed}
 use Rattle.lf_rules.specs.Legality.{Candidate, box_of, IsTeamLegal}
 
 -- A place with unbounded coordinates.

@@ -15,7 +15,7 @@ use Rattle.lf_floorplan.specs.RowSupport.{IsSitesHigh, IsBottomRow, HasHeight, H
 use Rattle.lf_rules.specs.Padding.{length_of, wider}
 use Rattle.lf_rules.specs.declared.rule.Rule.{Rule}
 use Rattle.lf_rules.specs.declared.rule.Rule.TheVariants.{Height, Row as RowRule, Stand, Orient as OrientRule, Rail as RailRule, Fence, Obstacle, Overlap}
-use Rattle.lf_rtree.specs.declared.placed.Placed.{Placed}
+use Rattle.lf_units.specs.declared.placed.Placed.{Placed}
 use Rattle.lf_rules.specs.declared.rule.Broken.{Broken}
 
 -- A cell of a team, given by its macro, at a candidate place. `others` are the team's other placed

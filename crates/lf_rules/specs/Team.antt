@@ -4,7 +4,7 @@ use Rattle.lf_units.specs.declared.geometry.Rect.{Rect}
 use Rattle.lf_floorplan.specs.declared.frame.Frame.{Frame}
 use Rattle.lf_floorplan.specs.Boxes.{size_of, macro_of}
 use Rattle.lf_floorplan.specs.Sizes.{turned, box_at}
-use Rattle.lf_rtree.specs.declared.placed.Placed.{Placed}
+use Rattle.lf_units.specs.declared.placed.Placed.{Placed}
 use Rattle.lf_rules.specs.Choice.{SpotPlace, PlacementQuery, IsLegalAt}
 
 -- A cell of a team: the number of its macro, and its place if it has one.

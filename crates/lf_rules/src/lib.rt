@@ -56,7 +56,7 @@ pub use laws::{
     tidied_is_legal, tidied_keeps_cells, tidy_keeps_legal, verdict_exists, verdict_is_unique,
 };
 pub use lf_floorplan::Place;
-pub use lf_rtree::Placed;
+pub use lf_units::Placed;
 pub use padding::{Padding, widen};
 pub use report_types::{Listed, Report, Violation};
 pub use rows::{height_in_sites, is_bottom_row, supports};

@@ -5,8 +5,7 @@ ghost use Rattle.lf_units.specs.Area.{SharesPoint, Covers, CoveredBy};
 ghost use Rattle.lf_rules.specs.Legality.{IsFirstOverlapping};
 
 use lf_floorplan::Team;
-use lf_rtree::Placed;
-use lf_units::Rect;
+use lf_units::{Placed, Rect};
 
 /// Returns whether the box shares no point with any of the rectangles.
 pub(crate) fn is_clear_of(rect: &Rect, rects: &[Rect]) -> bool

@@ -15,7 +15,7 @@ use crate::rows::{bottom_row, height_in_sites, is_supported};
 use crate::rule::{Broken, Rule};
 use lf_floorplan::{Frame, FrameQuery, Macro, Place, Row};
 use lf_orient::{Orient, equal_under, is_candidate, row_rail};
-use lf_rtree::Placed;
+use lf_units::Placed;
 
 /// Returns whether a cell of the macro may have this orientation on this bottom row. The macro's
 /// symmetry must allow it. If the height in core sites is odd, the core site's symmetry must make

@@ -8,9 +8,9 @@ use Rattle.std.proofs.lemmas.List.Sorted.{All-permutation, IsPermutation-sym}
 use Rattle.lf_units.specs.declared.geometry.Rect.{Rect}
 use Rattle.lf_units.specs.Area.{Covers, SharesPoint}
 use Rattle.lf_units.proofs.Any.{any_first, any_later, any_cases, any_parts, any_left, any_right, any_one, none_of_nothing}
-use Rattle.lf_spans.specs.declared.span.Span.{Span}
-use Rattle.lf_rtree.specs.declared.placed.Placed.{Placed}
-use Rattle.lf_spans.specs.Spans.{HoldsNumber, IsFilled, AreDisjoint, LiesInOneOf, IsRising, IsFree, IsJoin, IsMeet}
+use Rattle.lf_units.specs.declared.span.Span.{Span}
+use Rattle.lf_units.specs.declared.placed.Placed.{Placed}
+use Rattle.lf_units.specs.Spans.{HoldsNumber, IsFilled, AreDisjoint, LiesInOneOf, IsRising, IsFree, IsJoin, IsMeet}
 use Rattle.lf_segments.specs.Boxes.{x_extent, AreSpansAt, AreUnder, IsCoveredAt, IsCoveredOver}
 
 -- The order of the taken spans does not change the free ones.

@@ -3,7 +3,7 @@ use Rattle.std.proofs.Common.{◌≡◌, ◌⊎◌, inl, inr, ℕ, ℤ, ◌<◌,
 use Rattle.std.specs.Prelude.{AllPairs}
 use Rattle.std.specs.List.Sorted.{IsPartitionedBy, IsPartitionPoint}
 use Rattle.std.proofs.lemmas.Int.{ints}
-use Rattle.lf_spans.proofs.Comparisons.{most_of, of_most, not_most_of}
+use Rattle.lf_units.proofs.Comparisons.{most_of, of_most, not_most_of}
 use Rattle.lf_segments.specs.declared.segment.Segment.{Segment}
 
 -- The segments that end at a limit or left of it are the first ones.

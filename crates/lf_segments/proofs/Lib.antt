@@ -5,3 +5,13 @@ pub mod GroupLemmas
 pub mod RowLemmas
 pub mod TreeLemmas
 pub mod StartLemmas
+pub mod LawLemmas
+pub mod OneLemmas
+pub mod HeightLemmas
+pub mod OrderLemmas
+pub mod RangeLemmas
+pub mod StripLemmas
+pub mod ExtentLemmas
+pub mod SoftLemmas
+pub mod LastLemmas
+pub mod OnRowLemmas

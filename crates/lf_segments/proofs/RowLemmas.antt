@@ -9,8 +9,8 @@ use Rattle.std.proofs.lemmas.List.{get_or_default, get_or_append_left, get_or-ap
 use Rattle.std.proofs.lemmas.List.Elements.{All-nil, All-append, All-weaker, All-map}
 use Rattle.lf_units.proofs.Any.{any_parts, any_left, any_right, any_map, any_mapped}
 use Rattle.lf_units.specs.declared.geometry.Rect.{Rect}
-use Rattle.lf_spans.specs.declared.span.Span.{Span}
-use Rattle.lf_spans.specs.Spans.{HoldsNumber, IsFilled, LiesIn, LiesInOneOf}
+use Rattle.lf_units.specs.declared.span.Span.{Span}
+use Rattle.lf_units.specs.Spans.{HoldsNumber, IsFilled, LiesIn, LiesInOneOf}
 use Rattle.lf_floorplan.specs.declared.frame.Frame.{Frame}
 use Rattle.lf_floorplan.specs.declared.parts.Row.{Row}
 use Rattle.lf_segments.specs.declared.segment.Segment.{Segment}

@@ -1,3 +1,10 @@
 pub mod Segments
 pub mod Boxes
 pub mod RowStarts
+pub mod Laws
+pub mod RowsByY
+pub mod Strips
+pub mod Soft
+pub mod Indexes
+pub mod IndexedFrames
+pub mod Lookups

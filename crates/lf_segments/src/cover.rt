@@ -2,12 +2,10 @@
 
 ghost use Rattle.std.specs.Prelude.{◌≡◌, ◌⊎◌, ◌↔◌, ◌≤ℤ◌, ◌<ℤ◌, All, IfOk, IsFalse, IsPermutation, IsSomeAnd, IsTrue, map};
 ghost use Rattle.lf_units.specs.Area.{SharesPoint};
-ghost use Rattle.lf_spans.specs.Spans.{IsFree, IsInOrder, IsRising};
+ghost use Rattle.lf_units.specs.Spans.{IsFree, IsInOrder, IsRising};
 ghost use Rattle.lf_segments.specs.Boxes.{x_extent, AreSpansAt, IsCoveredAt, IsCoveredOver};
 
-use lf_rtree::Placed;
-use lf_spans::{free_spans_in, spans_join, spans_meet};
-use lf_units::{Rect, Span};
+use lf_units::{Placed, Rect, Span, free_spans_in, spans_join, spans_meet};
 use std::alloc::{AllocError, Global};
 
 /// Returns the x range of a rectangle.

@@ -2,15 +2,14 @@
 
 ghost use Rattle.std.specs.Prelude.{◌≡◌, ◌+◌, ◌<◌, ◌≤◌, ◌++◌, IfOk, OnOk, ℕ, List, [], length, map, slice_index_or};
 ghost use Rattle.lf_units.specs.declared.geometry.Rect.{Rect};
-ghost use Rattle.lf_rtree.specs.declared.placed.Placed.{Placed};
+ghost use Rattle.lf_units.specs.declared.placed.Placed.{Placed};
 ghost use Rattle.lf_floorplan.specs.declared.parts.Row.{Row};
 ghost use Rattle.lf_segments.specs.Boxes.{segment_of, AddsRow, AreBoxesOf, AreClear, AreOpen, AreRowBoxes, AreSorted, IsNextGroup};
 
 use crate::cover::{covered_over, free_beside};
 use crate::segment::Segment;
 use lf_floorplan::{Frame, Row};
-use lf_rtree::Placed;
-use lf_units::Span;
+use lf_units::{Placed, Span};
 use std::alloc::{AllocError, Global};
 
 /// Appends spans as segments of a row and a team. `Err` if an allocation fails.

@@ -5,8 +5,7 @@ ghost use Rattle.lf_floorplan.specs.Rows.{IsCoreRow};
 ghost use Rattle.lf_segments.specs.Boxes.{placed_with_number, fence_boxes, frame_boxes, AreBoxesOf, AreSorted};
 
 use lf_floorplan::{Frame, Row, Team};
-use lf_rtree::{Placed, RTree};
-use lf_units::Rect;
+use lf_units::{Placed, RTree, Rect};
 use std::alloc::{AllocError, Global};
 
 /// Appends rectangles, each with this number. `Err` if an allocation fails.

@@ -8,8 +8,7 @@
 //! Contracts see the teams that are written (`TeamViews`) and the rows that are read (`SavedTeamRow`) as
 //! saved teams (`SavedTeam`), whose text is `state_text`.
 //!
-//! Used by `lf_state_restore`, `lf_floor`, `lf_task_faults`, `lf_task_designs` and
-//! `lf_task_files`.
+//! Used by `lf_floor`, `lf_task_faults`, `lf_task_designs` and `lf_task_files`.
 //!
 //! Modules, in reading order:
 //!

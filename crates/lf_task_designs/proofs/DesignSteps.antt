@@ -10,7 +10,7 @@ use Rattle.lf_lex.specs.Faults.{load_fault_of}
 use Rattle.lf_lef.specs.Contents.{Contents}
 use Rattle.lf_def.specs.Document.{Document, document_of}
 use Rattle.lf_floorplan.specs.declared.limits.Limits.{Limits}
-use Rattle.lf_frame_checks.specs.Conflicts.{Conflict, no_fence}
+use Rattle.lf_frame.specs.Conflicts.{Conflict, no_fence}
 use Rattle.lf_task_faults.specs.declared.faults.Fault.{Fault}
 use Rattle.lf_task_faults.specs.declared.faults.Fault.TheVariants.{Refused, File, RefusedState, NoTeam, ReadFault, WriteFault, TooManyLines, OutOfMemory, Output, Bind, Accept, NotWritten, SetupOutOfMemory, OutputOutOfMemory}
 use Rattle.lf_task_faults.specs.declared.faults.TextKind.{TextKind}

@@ -8,8 +8,8 @@ use Rattle.lf_lef.specs.Library as lef
 use Rattle.lf_def.specs.Document as def
 use Rattle.lf_floorplan.specs.declared.limits.Limits.{Limits}
 use Rattle.lf_floorplan.specs.declared.loaded.Loaded.{Loaded}
-use Rattle.lf_frame_checks.specs.Findings.{IsLoadFault}
-use Rattle.lf_frame_checks.specs.Conflicts.{ConflictsWith, Conflict, no_fence}
+use Rattle.lf_frame.specs.Findings.{IsLoadFault}
+use Rattle.lf_frame.specs.Conflicts.{ConflictsWith, Conflict, no_fence}
 use Rattle.lf_frame.specs.Loads.{IsLoadedFrom}
 use Rattle.lf_write.specs.Export.{ClauseFacts, clause_of}
 use Rattle.lf_task_designs.specs.declared.loading.TheConstants.{BUILT_IN}

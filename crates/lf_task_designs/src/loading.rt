@@ -9,7 +9,7 @@ ghost use Rattle.lf_task_faults.specs.declared.faults.TextKind.TheVariants.{Lef,
 ghost use Rattle.lf_lef.specs.Library.{library_after};
 ghost use Rattle.lf_def.specs.Contents.{contents};
 ghost use Rattle.lf_def.specs.Document.{document_of};
-ghost use Rattle.lf_frame_checks.specs.Conflicts.{ConflictsWith, Conflict, no_fence};
+ghost use Rattle.lf_frame.specs.Conflicts.{ConflictsWith, Conflict, no_fence};
 ghost use Rattle.lf_task_faults.specs.Refusals.{IsReportedConflict};
 ghost use Rattle.lf_task_designs.specs.Designs.{AddsFile, AreWithSlots, IsDefRefusal, IsDesignFault, IsDesignIn, IsDesignOf, IsFileDesign, IsFileFault};
 ghost use Rattle.lf_task_designs.specs.Designs.{IsLefRefusal, IsLibraryFault, IsLibraryOf, IsLoadRefusal, IsLoadedIn, IsReadRefusal, IsRefusedText};
@@ -18,8 +18,7 @@ ghost use Rattle.lf_task_designs.specs.Designs.{IsTextDesign, IsTextFault, IsUnr
 use crate::input_files::InputFiles;
 use lf_cli::Slots;
 use lf_def::{DefDoc, read_def};
-use lf_frame::{Limits, Loaded, load};
-use lf_frame_checks::conflicting_fences;
+use lf_frame::{Limits, Loaded, conflicting_fences, load};
 use lf_lef::{Library, read_lef};
 use lf_lex::LoadFault;
 use lf_task_faults::{Fault, TextFile, TextKind, TextRefusal, unread_fault};

@@ -29,8 +29,8 @@ use Rattle.lf_task_faults.specs.declared.text_refusal.TextRefusal.{TextRefusal}
 use Rattle.lf_task_faults.specs.declared.text_refusal.StateRefusal.{StateRefusal}
 use Rattle.lf_task_faults.specs.declared.read_failure.ReadFailureKind.{ReadFailureKind}
 use Rattle.lf_task_faults.specs.declared.read_failure.ReadFailureKind.TheVariants as unreadable
-use Rattle.lf_io_files.specs.declared.output_files.WriteFailureKind.{WriteFailureKind}
-use Rattle.lf_io_files.specs.declared.output_files.WriteFailureKind.TheVariants as unwritable
+use Rattle.lf_io.specs.declared.output_files.WriteFailureKind.{WriteFailureKind}
+use Rattle.lf_io.specs.declared.output_files.WriteFailureKind.TheVariants as unwritable
 use Rattle.lf_task_faults.specs.declared.read_failure.ReadFailure.{ReadFailure}
 use Rattle.lf_task_faults.specs.declared.read_failure.ReadFailure.TheVariants as unread
 

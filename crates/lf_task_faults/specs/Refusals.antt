@@ -4,7 +4,7 @@ use Rattle.lf_lex.specs.declared.fault.LoadFault.{LoadFault}
 use Rattle.lf_lex.specs.declared.fault.ReadError.TheVariants.{Memory}
 use Rattle.lf_lex.specs.Faults.{load_fault_of}
 use Rattle.lf_lex.specs.Tokens.{is_line_feed, tokens_of}
-use Rattle.lf_frame_checks.specs.Conflicts.{Conflict, no_fence}
+use Rattle.lf_frame.specs.Conflicts.{Conflict, no_fence}
 use Rattle.lf_state_text.specs.declared.fault.StateFault.{StateFault}
 use Rattle.lf_task_faults.specs.declared.faults.TextKind.{TextKind}
 use Rattle.lf_task_faults.specs.declared.text_refusal.FenceLine.{FenceLine}

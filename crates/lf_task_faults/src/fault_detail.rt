@@ -13,8 +13,7 @@ use crate::hints::{Compression, Hint, Remark};
 use crate::read_failure::ReadFailureKind;
 use crate::text_refusal::{FenceLine, StateRefusal, TextRefusal};
 use itoa::Buffer;
-use lf_io::{DeviceFault, Sink, send};
-use lf_io_files::WriteFailureKind;
+use lf_io::{DeviceFault, Sink, WriteFailureKind, send};
 use lf_lex::FaultNumber;
 
 /// Returns the hex digit of a number below 16.

@@ -6,13 +6,13 @@ ghost use Rattle.lf_lex.specs.Tokens.{is_line_feed};
 ghost use Rattle.lf_lex.specs.declared.fault.LoadFault.{LoadFault};
 ghost use Rattle.lf_lex.specs.declared.fault.ReadError.TheVariants.{Memory};
 ghost use Rattle.lf_lex.specs.Faults.{load_fault_of};
-ghost use Rattle.lf_frame_checks.specs.Conflicts.{Conflict, conflict_in, no_fence};
+ghost use Rattle.lf_frame.specs.Conflicts.{Conflict, conflict_in, no_fence};
 ghost use Rattle.lf_state_text.specs.Refused.{HasEnd};
 ghost use Rattle.lf_task_faults.specs.Refusals.{IsReportedConflict, ReportsFault, ReportsStateFault, after_line, after_lines, first_line, text_line, line_front, fence_line_in, fence_line_of};
 
 use crate::faults::TextKind;
 use crate::hints::{Hint, Remark, earlier_line, fault_line, hint_of, nth_line, remark_of};
-use lf_frame_checks::FenceConflict;
+use lf_frame::FenceConflict;
 use lf_lex::{FaultNumber, LoadFault};
 use lf_state_text::{StateFaultNumber, StateRefused};
 use std::alloc::{AllocError, Global};

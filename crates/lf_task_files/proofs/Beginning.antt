@@ -3,8 +3,8 @@ use Rattle.std.proofs.Common.{◌∙◌, inl, inr, ℕ, List, ap, sym}
 use Rattle.lf_state_text.specs.Designs.{NamedDesign}
 use Rattle.lf_state_text.specs.Reading.{saved_state_of}
 use Rattle.lf_floor_model.specs.States.{FloorState}
-use Rattle.lf_state_restore.specs.Saved.{ShareDesign}
-use Rattle.lf_state_restore.proofs.Restoring.{named_alike}
+use Rattle.lf_floor.specs.Saved.{ShareDesign}
+use Rattle.lf_floor.proofs.Restoring.{named_alike}
 use Rattle.lf_floor.proofs.Alike.{restored_alike}
 use Rattle.lf_task_faults.specs.declared.faults.Fault.{Fault}
 use Rattle.lf_task_designs.specs.Designs.{ReadsFile}

@@ -22,7 +22,7 @@ use Rattle.lf_state_text.specs.Reading.{saved_state_of}
 use Rattle.lf_floor_model.specs.Designs.{initial_floor, initial_teams}
 use Rattle.lf_floor_model.specs.States.{FloorState, TeamState}
 use Rattle.lf_floor_model.proofs.Openings.{opening_whole}
-use Rattle.lf_state_restore.specs.Saved.{ShareDesign, fixed_cells, map_two, design_names, named_team, restored_floor, restored_team}
+use Rattle.lf_floor.specs.Saved.{ShareDesign, fixed_cells, map_two, design_names, named_team, restored_floor, restored_team}
 use Rattle.lf_task_faults.specs.declared.faults.Fault.{Fault}
 use Rattle.lf_task_faults.specs.declared.faults.Fault.TheVariants.{SetupOutOfMemory}
 use Rattle.lf_task_designs.specs.Designs.{ReadsFile}

@@ -9,7 +9,7 @@ use Rattle.lf_floorplan.specs.declared.loaded.Loaded.{Loaded}
 use Rattle.lf_cells.specs.Initial.{initial_cell, own_cells, own_components}
 use Rattle.lf_floor_model.specs.Designs.{initial_floor, initial_teams}
 use Rattle.lf_floor_model.specs.States.{FloorState}
-use Rattle.lf_state_restore.specs.Saved.{ShareDesign, fixed_cells, fixed_part}
+use Rattle.lf_floor.specs.Saved.{ShareDesign, fixed_cells, fixed_part}
 use Rattle.lf_task_faults.specs.declared.faults.Fault.{Fault}
 use Rattle.lf_task_faults.specs.declared.faults.Fault.TheVariants.{Refused, File, RefusedState, NoTeam, ReadFault, WriteFault, TooManyLines, OutOfMemory, Output, Bind, Accept, NotWritten, SetupOutOfMemory, OutputOutOfMemory}
 use Rattle.lf_task_faults.specs.declared.faults.TextKind.TheVariants.{State}

@@ -7,7 +7,7 @@ use Rattle.lf_floorplan.specs.declared.place.Place.{Place}
 use Rattle.lf_rules.specs.Legalizer.{Legalizer}
 use Rattle.lf_def.specs.Document.{Document}
 use Rattle.lf_write.specs.Export.{CanBeRenewed, exported}
-use Rattle.lf_io_files.specs.Shelf.{Put, PutsFile}
+use Rattle.lf_io.specs.Shelf.{Put, PutsFile}
 use Rattle.lf_describe.specs.Description.{AppendsDescription, AppendsDescriptionFirst}
 use Rattle.lf_floor_model.specs.States.{FloorState}
 use Rattle.lf_floor_model.specs.Places.{AreCommittedPlaces}

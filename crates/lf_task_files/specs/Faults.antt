@@ -1,8 +1,8 @@
 -- Faults of the files that a task writes, the exit statuses of tasks, and which device is to blame.
 use Rattle.std.specs.Prelude.{◌≡◌, ◌⊎◌, ℕ, Bool, true, List, Option, Some, None}
 use Rattle.std.specs.Borrow.{Bor}
-use Rattle.lf_io_files.specs.declared.output_files.WriteFailure.{WriteFailure}
-use Rattle.lf_io_files.specs.declared.output_files.WriteFailure.TheVariants as failure
+use Rattle.lf_io.specs.declared.output_files.WriteFailure.{WriteFailure}
+use Rattle.lf_io.specs.declared.output_files.WriteFailure.TheVariants as failure
 use Rattle.lf_task_faults.specs.declared.faults.Fault.{Fault}
 use Rattle.lf_task_faults.specs.declared.faults.Fault.TheVariants.{NotWritten, OutputOutOfMemory}
 use Rattle.lf_task_faults.specs.declared.faults.OutputKind.{OutputKind}

@@ -1,6 +1,6 @@
 -- The state of a floor that is read from a file before work begins, and written to one at the end.
 use Rattle.std.specs.Prelude.{◌≡◌, ◌⊎◌, ℕ, Bool, List, Option, Some, None, Ok, Err}
-use Rattle.lf_io_files.specs.Shelf.{Put, PutsFile}
+use Rattle.lf_io.specs.Shelf.{Put, PutsFile}
 use Rattle.lf_state_text.specs.declared.fault.StateFault.{StateFault}
 use Rattle.lf_state_text.specs.Reading.{saved_state_of}
 use Rattle.lf_state_text.specs.Saved.{SavedTeam}
@@ -8,7 +8,7 @@ use Rattle.lf_floorplan.specs.declared.limits.Limits.{Limits}
 use Rattle.lf_floorplan.specs.declared.loaded.Loaded.{Loaded}
 use Rattle.lf_floor_model.specs.States.{FloorState}
 use Rattle.lf_floor_model.specs.Designs.{initial_floor}
-use Rattle.lf_state_restore.specs.Saved.{IsRestoredFrom, IsStateText, design_names}
+use Rattle.lf_floor.specs.Saved.{IsRestoredFrom, IsStateText, design_names}
 use Rattle.lf_task_faults.specs.declared.faults.Fault.{Fault}
 use Rattle.lf_task_faults.specs.declared.faults.Fault.TheVariants.{SetupOutOfMemory, RefusedState}
 use Rattle.lf_task_faults.specs.declared.faults.TextKind.TheVariants.{State}

@@ -14,11 +14,11 @@ use lf_cells::{CellId, CellTable};
 use lf_floor::Floor;
 use lf_floor_verbs::is_cell_legal;
 use lf_floorplan::same_place;
-use lf_frame_index::IndexedFrame;
 use lf_legalize::IndexSeeker;
 use lf_placement::Placement;
 use lf_reports::{Listed, verdicts_with_plan};
 use lf_rules::{Padding, legalizer_exists};
+use lf_segments::IndexedFrame;
 use lf_task_designs::illegal_in;
 use std::alloc::{AllocError, Global};
 

@@ -15,7 +15,7 @@ ghost use Rattle.lf_task_files.specs.Inputs.{path_of};
 use crate::output_file::put_file;
 use lf_floor::{CellPlaces, Floor};
 use lf_floorplan::Place;
-use lf_io_files::{OutputFiles, TextSource};
+use lf_io::{OutputFiles, TextSource};
 use lf_legalize::IndexSeeker;
 use lf_task_designs::SourceText;
 use lf_task_faults::{Fault, OutputKind};

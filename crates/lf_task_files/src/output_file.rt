@@ -1,11 +1,11 @@
 //! A file that a task writes: its path is tried, and its text is written.
 
 ghost use Rattle.std.specs.Prelude.{◌≡◌, ◌||◌, Bool, None, Some, IfErr, OnErr, OnOk};
-ghost use Rattle.lf_io_files.specs.Shelf.{PutsFile, is_file};
+ghost use Rattle.lf_io.specs.Shelf.{PutsFile, is_file};
 ghost use Rattle.lf_task_files.specs.Faults.{ExportFails, IsOutputFault, output_fault};
 ghost use Rattle.lf_task_files.specs.Inputs.{path_of};
 
-use lf_io_files::{OutputFiles, TextSource, WriteFailure};
+use lf_io::{OutputFiles, TextSource, WriteFailure};
 use lf_task_faults::{Fault, OutputKind};
 
 /// Makes the fault of a file of this kind that is not written to this path.

@@ -2,7 +2,7 @@
 
 ghost use Rattle.std.specs.Prelude.{◌≡◌, ◌⊎◌, ℕ, List, None, Option, IfErr, OnErr, OnOk, option_copied};
 ghost use Rattle.lf_def.specs.Document.{Document};
-ghost use Rattle.lf_io_files.specs.Shelf.{Put};
+ghost use Rattle.lf_io.specs.Shelf.{Put};
 ghost use Rattle.lf_floorplan.specs.declared.place.Place.{Place};
 ghost use Rattle.lf_floor_model.specs.Places.{AreCommittedPlaces};
 ghost use Rattle.lf_task_designs.specs.Designs.{AreKept};
@@ -15,7 +15,7 @@ use crate::export::save_export;
 use crate::output_file::check_output_path;
 use crate::save::save_to;
 use lf_floor::Floor;
-use lf_io_files::OutputFiles;
+use lf_io::OutputFiles;
 use lf_legalize::IndexSeeker;
 use lf_task_designs::SourceText;
 use lf_task_faults::{Fault, OutputKind};

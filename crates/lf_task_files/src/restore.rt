@@ -4,7 +4,7 @@ ghost use Rattle.std.specs.Prelude.{◌≡◌, ◌⊎◌, ◌+◌, IfErr, IfOk, 
 ghost use Rattle.lf_state_text.specs.Pieces.{text_of_chunks};
 ghost use Rattle.lf_state_text.specs.Refused.{HasEnd};
 ghost use Rattle.lf_floor_model.specs.Designs.{initial_floor};
-ghost use Rattle.lf_state_restore.specs.Saved.{MatchDesign, ShareDesign, design_names};
+ghost use Rattle.lf_floor.specs.Saved.{MatchDesign, ShareDesign, design_names};
 ghost use Rattle.lf_state_text.specs.Reading.{saved_state_of};
 ghost use Rattle.lf_state_text.specs.Saved.{team_views};
 ghost use Rattle.lf_task_faults.specs.declared.faults.Fault.TheVariants.{SetupOutOfMemory};

@@ -9,8 +9,7 @@ ghost use Rattle.lf_task_files.specs.Inputs.{path_of};
 
 use crate::output_file::put_file;
 use lf_floor::{Floor, StateSnapshot};
-use lf_io::Output;
-use lf_io_files::{OutputFiles, TextSource};
+use lf_io::{Output, OutputFiles, TextSource};
 use lf_legalize::IndexSeeker;
 use lf_task_faults::{Fault, OutputKind};
 use std::io;

@@ -22,8 +22,8 @@ use Rattle.lf_repair_team.specs.TeamRepairs.{committed_in, place_of_cell_in, set
 use Rattle.lf_repair_team.proofs.Legal.{committed_through}
 use Rattle.lf_improve_team.specs.FloorLengths.{AreNetsOfFloor, IsWireLengthOn, WireLengthIsOne}
 use Rattle.lf_improve_team.specs.TeamImprovements.{IsImprovable, KeepsTeamPlaces}
-use Rattle.lf_improve_report.specs.declared.improved.ImprovedTeam.{ImprovedTeam}
-use Rattle.lf_improve_report.specs.ImproveReports.{improved_team_name}
+use Rattle.lf_task_reports.specs.declared.improved.ImprovedTeam.{ImprovedTeam}
+use Rattle.lf_task_reports.specs.ImproveReports.{improved_team_name}
 use Rattle.lf_task_run.specs.Teams.{is_selected, selected_at, selected_names}
 use Rattle.lf_task_run.proofs.Named.{others_before}
 use Rattle.lf_task_run.proofs.Running.{AreUntouched, legal_same, first_requested, moved_off_soft_same, selected_have, stats_same}

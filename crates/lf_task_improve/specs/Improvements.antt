@@ -20,11 +20,11 @@ use Rattle.lf_repair_team.specs.TeamRepairs.{AreMovedOffSoft, settings_in}
 use Rattle.lf_repair_strategy.specs.declared.stats.RepairStats.{RepairStats}
 use Rattle.lf_improve_team.specs.FloorLengths.{listed_place}
 use Rattle.lf_improve_team.specs.TeamImprovements.{IsImprovable, KeepsTeamPlaces, StaysWithin}
-use Rattle.lf_repair_report.specs.declared.density.DensityChange.{DensityChange}
-use Rattle.lf_repair_report.specs.Densities.{IsDensityOn}
-use Rattle.lf_improve_report.specs.declared.improved.ImprovedTeam.{ImprovedTeam}
-use Rattle.lf_improve_report.specs.declared.report.PinChange.{PinChange}
-use Rattle.lf_improve_report.specs.ImproveReports.{improve_report, improved_team_name}
+use Rattle.lf_task_reports.specs.declared.density.DensityChange.{DensityChange}
+use Rattle.lf_task_reports.specs.Densities.{IsDensityOn}
+use Rattle.lf_task_reports.specs.declared.improved.ImprovedTeam.{ImprovedTeam}
+use Rattle.lf_task_reports.specs.declared.improvement_report.PinChange.{PinChange}
+use Rattle.lf_task_reports.specs.ImproveReports.{improve_report, improved_team_name}
 use Rattle.lf_task_run.specs.Teams.{selected_names}
 
 -- ---- a team

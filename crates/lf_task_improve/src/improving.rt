@@ -17,16 +17,17 @@ use crate::opening::DesignWires;
 use lf_density::PinDensity;
 use lf_floor::{Floor, team_name};
 use lf_floorplan::Frame;
-use lf_improve_report::{ImprovedTeam, LengthChange, PinChange, improve_report};
 use lf_improve_team::{
     CellsOnFloor, ImproveOptions, ImproveSearch, ImproveWish, TeamImprovement, WireNets,
     improve_team, wire_length_is_one,
 };
 use lf_legalize::IndexSeeker;
-use lf_repair_report::{density_on, density_since};
 use lf_rules::legalizer_exists;
 use lf_task_faults::Fault;
 use lf_task_files::is_committed_legal;
+use lf_task_reports::{
+    ImprovedTeam, LengthChange, PinChange, density_on, density_since, improve_report,
+};
 use lf_task_run::{
     CommandLog, Job, Progress, ProgressSink, TaskResults, announce_team, is_selected, status_by,
 };

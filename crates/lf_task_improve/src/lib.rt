@@ -3,7 +3,7 @@
 //! `Improve` is a `Work` (`lf_task_run`). It opens a design with its nets, and improves the selected
 //! teams one after the other (`lf_improve_team`). Cells move only if the wire length of the whole
 //! design becomes shorter. The result of each team and the lengths are reported in lines of JSON
-//! (`lf_improve_report`).
+//! (`lf_task_reports`).
 //!
 //! Used by `lf_app`.
 //!

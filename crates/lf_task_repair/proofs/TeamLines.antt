@@ -23,13 +23,13 @@ use Rattle.lf_repair_team.proofs.WithoutPlace.{none_through}
 use Rattle.lf_repair_strategy.specs.declared.stats.DisplacementMeans.{DisplacementMeans}
 use Rattle.lf_repair_strategy.specs.declared.stats.RepairStats.{RepairStats}
 use Rattle.lf_density.specs.declared.density.Density.{Density}
-use Rattle.lf_repair_report.specs.declared.report.RepairReport.{RepairReport}
-use Rattle.lf_repair_report.specs.Densities.{IsDensityOn}
+use Rattle.lf_task_reports.specs.declared.repair_report.RepairReport.{RepairReport}
+use Rattle.lf_task_reports.specs.Densities.{IsDensityOn}
 use Rattle.lf_repair_bounds.specs.declared.reasons.ImpossibleMacro.{ImpossibleMacro}
 use Rattle.lf_repair_bounds.specs.Gaps.{AreGaps, placed_team}
 use Rattle.lf_task_files.specs.declared.measured.RepairLimits.{RepairLimits}
-use Rattle.lf_repair_report.specs.declared.totals.Totals.{Totals}
-use Rattle.lf_repair_report.specs.RepairReports.{AreGapsIn, IsOneMore, all_line, least_for, listed_reason, no_sums, totals_with_team, unrepaired_with}
+use Rattle.lf_task_reports.specs.declared.totals.Totals.{Totals}
+use Rattle.lf_task_reports.specs.RepairReports.{AreGapsIn, IsOneMore, all_line, least_for, listed_reason, no_sums, totals_with_team, unrepaired_with}
 use Rattle.lf_floor.proofs.Saving.{names_many}
 use Rattle.lf_task_run.specs.Teams.{is_selected, selected_at, selected_names}
 use Rattle.lf_task_repair.specs.Reports.{AddsTeamLines, IsRepairOf, IsReport, AddsTotalLine, IsTeamReport, TeamReport, line_of_team, sums_with}

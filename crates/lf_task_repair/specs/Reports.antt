@@ -16,11 +16,11 @@ use Rattle.lf_repair_team.specs.Stats.{AreTeamMeans, AreTeamStats}
 use Rattle.lf_repair_team.specs.TeamRepairs.{KeepsLegalPlaces, AreLegalExcept, AreMovedOffSoft, HasNoPlaceOrIsListed, IsIllegalIn, KeepsListedPlaces, StaysWithin, WasIllegal, committed_in, settings_in}
 use Rattle.lf_repair_strategy.specs.declared.stats.RepairStats.{RepairStats}
 use Rattle.lf_density.specs.declared.density.Density.{Density}
-use Rattle.lf_repair_report.specs.declared.density.DensityChange.{DensityChange}
-use Rattle.lf_repair_report.specs.Densities.{IsDensityOn}
-use Rattle.lf_repair_report.specs.declared.report.RepairReport.{RepairReport}
-use Rattle.lf_repair_report.specs.declared.totals.Totals.{Totals}
-use Rattle.lf_repair_report.specs.RepairReports.{AreGapsIn, UnrepairedCells, all_line, least_for, no_sums, team_line, totals_with_team, unrepaired_with}
+use Rattle.lf_task_reports.specs.declared.density.DensityChange.{DensityChange}
+use Rattle.lf_task_reports.specs.Densities.{IsDensityOn}
+use Rattle.lf_task_reports.specs.declared.repair_report.RepairReport.{RepairReport}
+use Rattle.lf_task_reports.specs.declared.totals.Totals.{Totals}
+use Rattle.lf_task_reports.specs.RepairReports.{AreGapsIn, UnrepairedCells, all_line, least_for, no_sums, team_line, totals_with_team, unrepaired_with}
 use Rattle.lf_repair_bounds.specs.declared.reasons.ImpossibleMacro.{ImpossibleMacro}
 use Rattle.lf_task_files.specs.declared.measured.RepairLimits.{RepairLimits}
 

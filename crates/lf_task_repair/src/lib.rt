@@ -3,7 +3,7 @@
 //! `Repair` is a `Work` (`lf_task_run`). It opens a design (`lf_task_designs`), and repairs the selected
 //! teams one after the other (`lf_repair_team`). If cells without a place are to go near their nets, it
 //! opens the design with its nets (`lf_task_wires`), which give the targets of these cells
-//! (`lf_wire_targets`). The result of each team is reported in a line of JSON (`lf_repair_report`).
+//! (`lf_wire_targets`). The result of each team is reported in a line of JSON (`lf_task_reports`).
 //!
 //! Used by `lf_app`.
 //!

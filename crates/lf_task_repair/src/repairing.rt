@@ -7,7 +7,7 @@ ghost use Rattle.lf_floor_model.specs.Teams.{state_of, team_number};
 ghost use Rattle.lf_repair_strategy.specs.declared.pass.MovePolicy.TheVariants.{KeepLegal as Keep};
 ghost use Rattle.lf_repair_team.specs.TeamRepairs.{ChangesOnly, KeepsLegalPlaces};
 ghost use Rattle.lf_repair_strategy.specs.declared.stats.RepairStats.{RepairStats};
-ghost use Rattle.lf_repair_report.specs.RepairReports.{IsOneMore};
+ghost use Rattle.lf_task_reports.specs.RepairReports.{IsOneMore};
 ghost use Rattle.lf_task_faults.specs.declared.faults.Fault.TheVariants.{SetupOutOfMemory};
 ghost use Rattle.lf_task_run.specs.Commands.{IsKeptRun, kept_text};
 ghost use Rattle.lf_task_run.specs.Tasks.{IsWorkDone, request_of};
@@ -20,11 +20,11 @@ use lf_density::Density;
 use lf_floor::{Floor, team_name};
 use lf_floorplan::Frame;
 use lf_legalize::IndexSeeker;
-use lf_repair_report::{RepairReport, density_on, density_since};
 use lf_repair_team::{MovePolicy, RepairSearch, repair_team};
 use lf_rules::legalizer_exists;
 use lf_task_faults::Fault;
 use lf_task_files::{RepairLimits, is_committed_legal};
+use lf_task_reports::{RepairReport, density_on, density_since};
 use lf_task_run::{
     CommandLog, Job, Progress, ProgressSink, TaskResults, announce_team, is_selected, status_by,
 };

@@ -11,7 +11,7 @@ use Rattle.lf_task_designs.specs.declared.opening.SourceText.{SourceText}
 use Rattle.lf_cli.specs.Command.{RepairPaths}
 use Rattle.lf_task_run.specs.Teams.{IsUnknown}
 use Rattle.lf_task_run.specs.Outputs.{WritesNoText, is_text_requested, IsNotPut}
-use Rattle.lf_io_files.specs.Shelf.{Put}
+use Rattle.lf_io.specs.Shelf.{Put}
 use Rattle.lf_task_designs.specs.Designs.{ReadsFile}
 use Rattle.lf_task_run.specs.declared.task.Begun.{Begun}
 use Rattle.lf_floor_model.specs.States.{FloorState}

@@ -3,7 +3,7 @@ use Rattle.std.specs.Prelude.{◌≡◌, ℕ, true, All, List, [], Option, Some,
 use Rattle.std.specs.Io.KnownBytes.{Appends}
 use Rattle.lf_floorplan.specs.declared.place.Place.{Place}
 use Rattle.lf_rules.specs.Legalizer.{Legalizer}
-use Rattle.lf_io_files.specs.Shelf.{Put, PutsFile}
+use Rattle.lf_io.specs.Shelf.{Put, PutsFile}
 use Rattle.lf_proto.specs.Lines.{IsLineName}
 use Rattle.lf_proto.specs.Requests.{IsPlain}
 use Rattle.lf_proto.specs.declared.request.Command.{Command}

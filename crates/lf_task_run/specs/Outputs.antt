@@ -2,7 +2,7 @@
 use Rattle.std.specs.Prelude.{◌≡◌, ◌||◌, ◌⊎◌, ℕ, Bool, true, List, Option, None, is_some, take}
 use Rattle.std.specs.Io.KnownBytes.{Appends}
 use Rattle.lf_def.specs.Document.{Document}
-use Rattle.lf_io_files.specs.Shelf.{Put}
+use Rattle.lf_io.specs.Shelf.{Put}
 use Rattle.lf_floor_model.specs.States.{FloorState}
 use Rattle.lf_floor.specs.Working.{with_working}
 use Rattle.lf_cli.specs.Command.{RepairPaths}

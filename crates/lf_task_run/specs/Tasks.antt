@@ -7,7 +7,7 @@ use Rattle.lf_floorplan.specs.declared.frame.Frame.{Frame}
 use Rattle.lf_floorplan.specs.declared.limits.Limits.{Limits}
 use Rattle.lf_floorplan.specs.declared.loaded.Loaded.{Loaded}
 use Rattle.lf_rules.specs.Legalizer.{Legalizer}
-use Rattle.lf_io_files.specs.Shelf.{Put}
+use Rattle.lf_io.specs.Shelf.{Put}
 use Rattle.lf_floor_model.specs.Designs.{initial_floor}
 use Rattle.lf_floor_model.specs.States.{FloorState}
 use Rattle.lf_task_faults.specs.declared.faults.Fault.{Fault}

@@ -6,8 +6,7 @@ ghost use Rattle.lf_task_files.specs.Faults.{ExportFails, IsOutputFault};
 ghost use Rattle.lf_task_files.specs.Inputs.{path_of};
 ghost use Rattle.lf_task_run.specs.Commands.{WritesLines, initial_lines, kept_bytes, kept_text};
 
-use lf_io::{DeviceFault, Sink};
-use lf_io_files::{OutputFiles, TextSource};
+use lf_io::{DeviceFault, OutputFiles, Sink, TextSource};
 use lf_task_faults::{Fault, OutputKind};
 use lf_task_files::put_file;
 use std::alloc::{AllocError, Global};

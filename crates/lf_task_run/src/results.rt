@@ -17,8 +17,7 @@ ghost use Rattle.lf_task_run.specs.Outputs.{AreNotPut, AreWritten, BlamesOutputs
 use crate::command_log::{CommandLog, save_lines};
 use lf_cli::RepairFiles;
 use lf_floor::Floor;
-use lf_io::{Sink, send};
-use lf_io_files::OutputFiles;
+use lf_io::{OutputFiles, Sink, send};
 use lf_legalize::IndexSeeker;
 use lf_task_designs::SourceText;
 use lf_task_faults::{Fault, OutputKind};

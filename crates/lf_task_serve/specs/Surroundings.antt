@@ -1,6 +1,6 @@
 -- The devices of a task: what contracts see of them, and what is unchanged.
 use Rattle.std.specs.Prelude.{◌≡◌, ℕ, Bool, false, true, List, Option}
-use Rattle.lf_io_files.specs.Shelf.{Put}
+use Rattle.lf_io.specs.Shelf.{Put}
 use Rattle.lf_server.specs.Connections.{Accepted}
 use Rattle.lf_task_faults.specs.declared.faults.Fault.{Fault}
 use Rattle.lf_task_faults.specs.Faults.{BlamesDevices}

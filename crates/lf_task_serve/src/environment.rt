@@ -4,8 +4,7 @@ ghost use Rattle.std.specs.Prelude.{◌≡◌};
 ghost use Rattle.lf_task_serve.specs.Surroundings.{Io};
 
 use crate::listener::PortListener;
-use lf_io::{Sink, Source};
-use lf_io_files::OutputFiles;
+use lf_io::{OutputFiles, Sink, Source};
 use lf_task_designs::InputFiles;
 use lf_task_run::Progress;
 use std::marker::PhantomData;

@@ -7,8 +7,8 @@ use Rattle.std.proofs.lemmas.Grind.{common_steps}
 use Rattle.std.proofs.lemmas.List.{drop_all}
 use Rattle.lf_lef.specs.Contents.{Contents}
 use Rattle.lf_lef.specs.Library.{library_after}
-use Rattle.lf_wire_pins.specs.declared.macros.MacroPins.{MacroPins}
-use Rattle.lf_wire_pins.specs.LibraryPins.{pins_after}
+use Rattle.lf_wire_nets.specs.declared.macros.MacroPins.{MacroPins}
+use Rattle.lf_wire_nets.specs.LibraryPins.{pins_after}
 use Rattle.lf_task_faults.specs.declared.faults.Fault.{Fault}
 use Rattle.lf_task_faults.specs.declared.faults.TextKind.TheVariants.{Lef}
 use Rattle.lf_task_designs.specs.Designs.{IsFileFault, IsLefRefusal, IsLibraryFault, IsRefusedText, ReadsFile}

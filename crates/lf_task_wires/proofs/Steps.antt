@@ -4,7 +4,7 @@ use Rattle.lf_lef.specs.Contents.{Contents}
 use Rattle.lf_def.specs.Document.{Document, document_of}
 use Rattle.lf_floorplan.specs.declared.limits.Limits.{Limits}
 use Rattle.lf_floorplan.specs.declared.loaded.Loaded.{Loaded}
-use Rattle.lf_wire_pins.specs.declared.macros.MacroPins.{MacroPins}
+use Rattle.lf_wire_nets.specs.declared.macros.MacroPins.{MacroPins}
 use Rattle.lf_task_faults.specs.Faults.{IsEarly}
 use Rattle.lf_task_faults.specs.declared.faults.Fault.{Fault}
 use Rattle.lf_task_faults.specs.declared.faults.TextKind.TheVariants.{Def, Lef}

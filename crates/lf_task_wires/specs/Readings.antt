@@ -2,8 +2,8 @@
 use Rattle.std.specs.Prelude.{◌≡◌, ◌⊎◌, ℕ, List, [], ◌∷◌, Some, Ok}
 use Rattle.lf_lef.specs.Contents.{Contents}
 use Rattle.lf_lef.specs.Library.{library_after}
-use Rattle.lf_wire_pins.specs.declared.macros.MacroPins.{MacroPins}
-use Rattle.lf_wire_pins.specs.LibraryPins.{RefusesPins, pins_after}
+use Rattle.lf_wire_nets.specs.declared.macros.MacroPins.{MacroPins}
+use Rattle.lf_wire_nets.specs.LibraryPins.{RefusesPins, pins_after}
 use Rattle.lf_wire_nets.specs.NetTexts.{RefusesNets, nets_of}
 use Rattle.lf_task_faults.specs.declared.faults.Fault.{Fault}
 use Rattle.lf_task_faults.specs.declared.faults.TextKind.TheVariants.{Lef}

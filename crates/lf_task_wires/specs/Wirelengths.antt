@@ -11,12 +11,12 @@ use Rattle.lf_wire_length.specs.Counts.{net_counts}
 use Rattle.lf_wire_length.specs.Length.{length_of_nets}
 use Rattle.lf_wire_length.specs.Placed.{loaded_place, loaded_team}
 use Rattle.lf_wire_length.specs.Teams.{lengths_of_teams}
-use Rattle.lf_wire_pins.specs.declared.macros.MacroPins.{MacroPins}
-use Rattle.lf_wire_nets.specs.declared.contents.DesignNets.{DesignNets}
+use Rattle.lf_wire_nets.specs.declared.macros.MacroPins.{MacroPins}
+use Rattle.lf_wire_nets.specs.declared.design_nets.DesignNets.{DesignNets}
 use Rattle.lf_wire_nets.specs.NetTexts.{nets_of}
-use Rattle.lf_wire_binding.specs.Binding.{bound_nets, is_supply}
-use Rattle.lf_wire_binding.specs.Texts.{DesignFacts}
-use Rattle.lf_wire_report.specs.WireReports.{wire_report}
+use Rattle.lf_wire_nets.specs.Binding.{bound_nets, is_supply}
+use Rattle.lf_wire_nets.specs.Texts.{DesignFacts}
+use Rattle.lf_task_reports.specs.WireReports.{wire_report}
 use Rattle.lf_task_faults.specs.declared.faults.Fault.{Fault}
 use Rattle.lf_task_faults.specs.declared.faults.Fault.TheVariants.{Output, SetupOutOfMemory}
 use Rattle.lf_task_faults.specs.declared.faults.TextKind.TheVariants.{Def}

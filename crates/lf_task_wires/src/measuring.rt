@@ -5,8 +5,8 @@ ghost use Rattle.lf_def.specs.Contents.{contents};
 ghost use Rattle.lf_task_faults.specs.declared.faults.Fault.TheVariants.{SetupOutOfMemory};
 ghost use Rattle.lf_task_faults.specs.declared.faults.TextKind.TheVariants.{Def};
 ghost use Rattle.lf_task_designs.specs.Designs.{IsRefusedText};
-ghost use Rattle.lf_wire_nets.specs.Ranges.{AreDesignNets};
-ghost use Rattle.lf_wire_binding.specs.Texts.{facts_of};
+ghost use Rattle.lf_wire_nets.specs.NetRanges.{AreDesignNets};
+ghost use Rattle.lf_wire_nets.specs.Texts.{facts_of};
 ghost use Rattle.lf_task_wires.specs.Readings.{IsNetsRefusal};
 ghost use Rattle.lf_task_wires.specs.Wirelengths.{IsReportOfNets, IsReportOfTexts, IsReportOverPins, IsWireFault};
 
@@ -15,9 +15,8 @@ use lf_def::DefDoc;
 use lf_floorplan::Loaded;
 use lf_task_faults::Fault;
 use lf_task_files::DesignInput;
-use lf_wire_binding::{DesignTexts, bind_nets};
-use lf_wire_pins::LibraryPins;
-use lf_wire_report::wire_report;
+use lf_task_reports::wire_report;
+use lf_wire_nets::{DesignTexts, LibraryPins, bind_nets};
 use std::alloc::{AllocError, Global};
 
 /// Returns the report of the nets of a design. `Err` if an allocation fails.

@@ -18,8 +18,8 @@ use lf_floorplan::{Limits, Loaded};
 use lf_lef::Library;
 use lf_task_designs::{InputFiles, SourceText, def_file, load_document, read_document, read_text};
 use lf_task_faults::Fault;
-use lf_wire_binding::{BoundNets, DesignTexts, bind_nets};
 use lf_wire_length::Netlist;
+use lf_wire_nets::{BoundNets, DesignTexts, bind_nets};
 use lf_write::{KeptClauses, clauses_of};
 use std::alloc::{AllocError, Global};
 

@@ -2,16 +2,15 @@
 
 ghost use Rattle.std.specs.Prelude.{◌≡◌, ◌≤◌, [], Ok, IfErr, IfOk, OnOk, length, map};
 ghost use Rattle.lf_wire_nets.specs.NetTexts.{nets_of};
-ghost use Rattle.lf_wire_nets.specs.Ranges.{AreDesignNets};
-ghost use Rattle.lf_wire_pins.specs.LibraryPins.{pins_after};
+ghost use Rattle.lf_wire_nets.specs.NetRanges.{AreDesignNets};
+ghost use Rattle.lf_wire_nets.specs.LibraryPins.{pins_after};
 ghost use Rattle.lf_task_faults.specs.declared.faults.TextKind.TheVariants.{Def, Lef};
 ghost use Rattle.lf_task_designs.specs.Designs.{IsRefusedText};
 ghost use Rattle.lf_task_wires.specs.Readings.{AddPins, IsNetsRefusal, IsPinsFault, IsPinsRefusal};
 
 use lf_task_designs::{def_file, lef_file, text_refusal};
 use lf_task_faults::Fault;
-use lf_wire_nets::{DesignNets, read_nets};
-use lf_wire_pins::{LibraryPins, read_pins};
+use lf_wire_nets::{DesignNets, LibraryPins, read_nets, read_pins};
 use std::alloc::Global;
 
 /// Reads the pins of one more LEF text, of the file `path`.

@@ -11,8 +11,9 @@ use lf_app::{
     TaskExit, perform, perform_over,
 };
 use lf_def::DEMO_DEF;
-use lf_io::{DeviceFault, FromRead, ToWrite};
-use lf_io_files::{OutputFiles, TextSource, WriteFailure, WriteFailureKind};
+use lf_io::{
+    DeviceFault, FromRead, OutputFiles, TextSource, ToWrite, WriteFailure, WriteFailureKind,
+};
 use lf_lef::DEMO_LEF;
 use lf_server::ServeLimits;
 use lf_tests_support::with_line;

@@ -1,8 +1,7 @@
 //! Boxes in a row, where each overlaps the next: the boxes near one, and the least number of those
 //! that overlap it.
 
-use lf_rtree::{Placed, RTree};
-use lf_units::Rect;
+use lf_units::{Placed, RTree, Rect};
 use std::alloc::{AllocError, Global};
 use std::test::Fail;
 

@@ -1,7 +1,5 @@
-//! Tests of the crates up to the readers of texts: what no clause says of them.
-//!
-//! The tests cover `lf_spans`, `lf_gaps`, `lf_repair_packing`, `lf_units`, `lf_rtree`, `lf_orient`,
-//! `lf_lex`, `lf_names`, `lf_sessions`, `lf_undo`, `lf_lef` and `lf_def`.
+//! Tests of the crates below the floor that need no floor: geometry, texts, the command line,
+//! requests and replies, and wires, in what no clause says of them.
 //!
 //! Modules, in reading order:
 //!
@@ -18,6 +16,15 @@
 //! - `undo`: undo entries if memory is refused, and at their limit
 //! - `lef_texts`: prefixes of LEF texts, several texts, and a long one
 //! - `def_texts`: prefixes of DEF texts, and a long one
+//! - `words`: the words of the command line
+//! - `requests`: requests, replies and reports
+//! - `streams`: the lines of a stream
+//! - `wire_length`: lengths of nets
+//! - `wire_faults`: refusals at a line, for other modules
+//! - `wire_pins`: pins of LEF texts in the forms of several tools
+//! - `wire_nets`: pins and nets of DEF texts in the forms of several tools
+//! - `wire_binding`: nets of a design, bound to its cells
+//! - `improver`: boards with shorter wires
 #![tactic(auto)]
 
 #[cfg(test)]
@@ -29,6 +36,8 @@ mod faults;
 #[cfg(test)]
 mod heaps;
 #[cfg(test)]
+mod improver;
+#[cfg(test)]
 mod lef_texts;
 #[cfg(test)]
 mod names;
@@ -37,12 +46,28 @@ mod orientations;
 #[cfg(test)]
 mod packing;
 #[cfg(test)]
+mod requests;
+#[cfg(test)]
 mod sessions;
 #[cfg(test)]
 mod spans;
+#[cfg(test)]
+mod streams;
 #[cfg(test)]
 mod tokens;
 #[cfg(test)]
 mod undo;
 #[cfg(test)]
 mod units;
+#[cfg(test)]
+mod wire_binding;
+#[cfg(test)]
+mod wire_faults;
+#[cfg(test)]
+mod wire_length;
+#[cfg(test)]
+mod wire_nets;
+#[cfg(test)]
+mod wire_pins;
+#[cfg(test)]
+mod words;

@@ -1,6 +1,6 @@
 //! Cells packed into a span: candidates, and cells that are pushed apart.
 
-use lf_repair_packing::{CostCurve, Insertion, PackedCell, PackedSpan, SearchEffort};
+use lf_repair_planner::{CostCurve, Insertion, PackedCell, PackedSpan, SearchEffort};
 use std::alloc::{AllocError, Global};
 use std::test::Fail;
 

@@ -1,8 +1,9 @@
 //! Lists of spans, numbers of a grid, and where a width fits.
 
 use lf_gaps::{GapTarget, best_in_row, nearer_in_gap, nearer_of};
-use lf_spans::{HasSpan, SiteGrid, free_in};
-use lf_units::{Span, nearest_on_grid, spans_join, spans_meet, spans_minus};
+use lf_units::{
+    HasSpan, SiteGrid, Span, free_in, nearest_on_grid, spans_join, spans_meet, spans_minus,
+};
 use std::test::Fail;
 
 #[test]

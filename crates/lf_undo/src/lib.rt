@@ -6,7 +6,7 @@
 //! further values that fit without an allocation. It sees `Moves` as the list of the moves.
 //! `UndoStore` is stacks of `Moves`. Every call except `build` requires a team of the stacks.
 //!
-//! Used by `lf_placement`, `lf_state_text`, `lf_state_restore`, `lf_floor_verbs` and `lf_floor`.
+//! Used by `lf_placement`, `lf_state_text`, `lf_floor` and `lf_floor_verbs`.
 //!
 //! Modules, in reading order:
 //!

@@ -1,4 +1,10 @@
+pub mod Grids
+pub mod GridSteps
+pub mod Spans
+pub mod Steps
 pub mod Area
 pub mod Length
 pub mod Number
 pub mod Digits
+pub mod Near
+pub mod Packed

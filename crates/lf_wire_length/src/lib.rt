@@ -28,7 +28,7 @@
 //! - `netlist`: the nets of a design
 //! - `laws`: laws on the length of nets
 //!
-//! From `crates/lf_tests_wires/src/wire_length.rt`:
+//! From `crates/lf_tests_basics/src/wire_length.rt`:
 //!
 //! ```
 //! assert_eq!(rt; nets.net_length(&cells, 3), 0);

@@ -1,0 +1,4 @@
+pub mod CellLemmas
+pub mod FirstLemmas
+pub mod NetLemmas
+pub mod RangeLemmas

@@ -9,7 +9,7 @@ use Rattle.lf_lex.specs.Tokens.{Lexeme, tokens_of}
 use Rattle.lf_lex.specs.Reading.{◌>>=◌, Reader, Statement, Turn, taken, continues, finishes, fault_at, token, is, end_name, to_semicolon, to_end, to_word, block, value_of}
 use Rattle.lf_def.specs.Document.{is_skipped_section}
 use Rattle.lf_def.specs.Entries.{section}
-use Rattle.lf_wire_nets.specs.declared.contents.DesignNets.{DesignNets}
+use Rattle.lf_wire_nets.specs.declared.design_nets.DesignNets.{DesignNets}
 use Rattle.lf_wire_nets.specs.DesignPins.{design_pin}
 use Rattle.lf_wire_nets.specs.Nets.{design_net}
 

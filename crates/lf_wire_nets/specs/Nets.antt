@@ -7,7 +7,7 @@ use Rattle.lf_wire_nets.specs.declared.nets.Expected.{Expected}
 use Rattle.lf_wire_nets.specs.declared.nets.Expected.TheVariants.{Term, Clause, Rest}
 use Rattle.lf_wire_nets.specs.declared.nets.NetParts.{NetParts}
 use Rattle.lf_wire_nets.specs.declared.nets.DesignNet.{DesignNet}
-use Rattle.lf_wire_nets.specs.declared.terms.NetTerm.{NetTerm}
+use Rattle.lf_wire_nets.specs.declared.net_terms.NetTerm.{NetTerm}
 
 -- A name in parentheses, which is not the closing one.
 unfoldable pub term_name : Reader Lexeme

@@ -6,7 +6,7 @@ ghost use Rattle.lf_lex.specs.Tokens.{lexeme};
 ghost use Rattle.lf_lex.specs.Reading.{Reads, ReadsOn, first_counts, turn};
 ghost use Rattle.lf_def.specs.Ranges.{HasCoordinates, IsDefCoordinate, IsLocation, IsRect};
 ghost use Rattle.lf_wire_nets.specs.DesignPins as grammar;
-ghost use Rattle.lf_wire_nets.specs.Ranges.{ArePinParts, IsDesignPin, IsDesignPort};
+ghost use Rattle.lf_wire_nets.specs.NetRanges.{ArePinParts, IsDesignPin, IsDesignPort};
 
 use lf_def::{Location, orient_of, point, point_rest};
 use lf_lex::{Block, Lexer, ReadError, Token, is_token, name, read_block, token};
@@ -33,7 +33,7 @@ pub struct DesignPin<'a> {
 }
 
 impl<'a> Model for DesignPin<'a> {
-    ghost use Rattle.lf_wire_nets.specs.Stored.{DesignPinFacts};
+    ghost use Rattle.lf_wire_nets.specs.StoredNets.{DesignPinFacts};
 
     ghost Value = { DesignPinFacts };
 

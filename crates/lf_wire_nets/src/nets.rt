@@ -4,9 +4,9 @@ ghost use Rattle.std.specs.Prelude.{◌≡◌, ◌≤◌, length, IfOk};
 ghost use Rattle.lf_lex.specs.Tokens.{lexeme};
 ghost use Rattle.lf_lex.specs.Reading.{Reads, ReadsOn, block, turn};
 ghost use Rattle.lf_wire_nets.specs.Nets as grammar;
-ghost use Rattle.lf_wire_nets.specs.Ranges.{AreNetParts, IsDesignNet};
+ghost use Rattle.lf_wire_nets.specs.NetRanges.{AreNetParts, IsDesignNet};
 
-use crate::terms::{NetTerm, net_term};
+use crate::net_terms::{NetTerm, net_term};
 use lf_lex::{FaultNumber, Lexer, ReadError, Token, fault_at, is_token, name, token, word};
 use lf_units::Sequence;
 use std::alloc::Global;

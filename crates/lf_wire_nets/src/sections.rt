@@ -6,9 +6,9 @@ ghost use Rattle.lf_lex.specs.Reading.{Reads, ReadsOn, block, turn};
 ghost use Rattle.lf_def.specs.Entries.{entry_or_end, section};
 ghost use Rattle.lf_wire_nets.specs.DesignPins as pin_grammar;
 ghost use Rattle.lf_wire_nets.specs.NetTexts as grammar;
-ghost use Rattle.lf_wire_nets.specs.Ranges.{AreDesignNets, IsDesignPin};
+ghost use Rattle.lf_wire_nets.specs.NetRanges.{AreDesignNets, IsDesignPin};
 
-use crate::contents::DesignNets;
+use crate::design_nets::DesignNets;
 use crate::design_pins::{DesignPin, design_pin};
 use crate::nets::design_net;
 use lf_lex::{

@@ -2,7 +2,7 @@ use Rattle.std.proofs.Common.{◌≡◌, ◌∙◌, List, Option, ap, map, sym, 
 use Rattle.std.specs.Prelude.{MatchOption}
 use Rattle.std.proofs.lemmas.Result.{IfOk-weaker}
 use Rattle.lf_units.specs.declared.geometry.Rect.{Rect}
-use Rattle.lf_frame_index.specs.declared.strip.Strip.{Strip}
+use Rattle.lf_segments.specs.declared.strip.Strip.{Strip}
 use Rattle.lf_density.specs.declared.grid.BinGrid.{BinGrid}
 use Rattle.lf_density.specs.Density.{IsDensityIn, no_density, usable_boxes}
 use Rattle.lf_density.proofs.density.density_of.Goals as goal

@@ -7,8 +7,8 @@ use Rattle.lf_undo.specs.declared.moves.Move.{Move}
 use Rattle.lf_undo.specs.Entries.{Places, entries_of}
 use Rattle.lf_undo.specs.Stacks.{stack_of}
 use Rattle.lf_placement.specs.Placements.{working_places_of}
-use Rattle.lf_state_restore.specs.Saved.{map_two, restored_cell, saved_cell}
-use Rattle.lf_state_restore.proofs.Restoring.{cells_back, saved_places}
+use Rattle.lf_floor.specs.Saved.{map_two, restored_cell, saved_cell}
+use Rattle.lf_floor.proofs.Restoring.{cells_back, saved_places}
 use Rattle.lf_floor_verbs.specs.Tables.{table_cells}
 use Rattle.lf_floor_verbs.specs.declared.tables.Tables.{Tables}
 use Rattle.lf_floor.proofs.Placing.{still_awaits}

@@ -2,7 +2,7 @@ use Rattle.std.proofs.Common.{◌≡◌, ◌≤◌, ◌+◌, List, [], ◌∷◌
 use Rattle.std.proofs.lemmas.List.{length-append}
 use Rattle.lf_state_text.specs.declared.saved_rows.SavedTeamRow.{SavedTeamRow}
 use Rattle.lf_state_text.specs.Saved.{team_view, team_views}
-use Rattle.lf_state_restore.proofs.Framing.{due_many}
+use Rattle.lf_floor.proofs.Framing.{due_many}
 use Rattle.lf_floor_verbs.specs.Tables.{frame_of, teams_in}
 use Rattle.lf_floor.specs.SavedStates.{saved_teams_at}
 use Rattle.lf_floor.proofs.Placing.{rest_awaits}

@@ -1,8 +1,8 @@
 use Rattle.std.proofs.Common.{◌≡◌, List, length, map, ap, subst, sym, ◌∙◌}
 use Rattle.lf_state_text.specs.declared.saved_rows.SavedTeamRow.{SavedTeamRow}
 use Rattle.lf_state_text.specs.Saved.{SavedTeam, team_views}
-use Rattle.lf_state_restore.specs.Saved.{MatchDesign, restored_floor}
-use Rattle.lf_state_restore.specs.Placed.{without_cells}
+use Rattle.lf_floor.specs.Saved.{MatchDesign, restored_floor}
+use Rattle.lf_floor.specs.Placed.{without_cells}
 use Rattle.lf_floor_verbs.specs.Tables.{floor_in, frame_of, teams_in}
 use Rattle.lf_floor.specs.SavedStates.{PlacesTeams}
 use Rattle.lf_floor.proofs.Placing.{due_placed, each_awaits, floor_placed, in_place, rows_many, rows_reported, tables_placed}

@@ -1,7 +1,7 @@
 use Rattle.std.proofs.Common.{◌≤◌, length, refl, subst}
 use Rattle.lf_floorplan.specs.declared.frame.Frame.{Frame}
 use Rattle.lf_state_text.specs.Saved.{state_text}
-use Rattle.lf_state_restore.specs.Saved.{design_names}
+use Rattle.lf_floor.specs.Saved.{design_names}
 use Rattle.lf_floor.specs.SavedStates.{saved_teams_of}
 use Rattle.lf_floor_verbs.specs.Tables.{floor_in}
 use Rattle.lf_floor.proofs.Saving.{tables_reported}

@@ -2,7 +2,7 @@ use Rattle.std.proofs.Common.{map, ap, sym, ◌∙◌, arith}
 use Rattle.std.specs.Prelude.{slice_get}
 use Rattle.lf_cells.specs.Cells.{Cells, cells_of}
 use Rattle.lf_state_text.specs.Saved.{SavedTeam}
-use Rattle.lf_state_restore.specs.Saved.{saved_cell}
+use Rattle.lf_floor.specs.Saved.{saved_cell}
 use Rattle.lf_floor.proofs.Saving.{none_reported, reported_at}
 use Rattle.lf_floor.proofs.state_view.reported_cell.Goals as goal
 

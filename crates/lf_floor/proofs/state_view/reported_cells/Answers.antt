@@ -3,7 +3,7 @@ use Rattle.std.proofs.lemmas.List.{length-map}
 use Rattle.lf_cells.specs.Cells.{Cells, cells_of}
 use Rattle.lf_cells.proofs.TeamIds.{ids_long}
 use Rattle.lf_state_text.specs.Saved.{SavedTeam}
-use Rattle.lf_state_restore.specs.Saved.{saved_cell}
+use Rattle.lf_floor.specs.Saved.{saved_cell}
 use Rattle.lf_floor_verbs.specs.Tables.{table_cells}
 use Rattle.lf_floor.proofs.Saving.{none_reported, reported_at}
 use Rattle.lf_floor.proofs.state_view.reported_cells.Goals as goal

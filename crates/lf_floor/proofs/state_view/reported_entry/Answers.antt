@@ -4,7 +4,7 @@ use Rattle.std.proofs.lemmas.List.{length-map}
 use Rattle.lf_undo.specs.declared.moves.Move.{Move}
 use Rattle.lf_undo.specs.Stacks.{stack_of}
 use Rattle.lf_state_text.specs.Saved.{SavedTeam, moves_within}
-use Rattle.lf_state_restore.specs.Saved.{saved_cell}
+use Rattle.lf_floor.specs.Saved.{saved_cell}
 use Rattle.lf_floor_verbs.specs.Tables.{table_cells}
 use Rattle.lf_floor.proofs.Saving.{get_mapped, none_reported, option_twice, reported_at}
 use Rattle.lf_floor.proofs.state_view.reported_entry.Goals as goal

@@ -1,6 +1,6 @@
 use Rattle.std.proofs.Common.{◌≡◌, ◌<◌, ◌≤◌, length, get_or, arith, ap, List, refl, sym, ◌∙◌}
 use Rattle.lf_def.specs.declared.components.Component.{Component}
-use Rattle.lf_frame_checks.specs.Findings.{LoadInputs, inputs}
+use Rattle.lf_frame.specs.Findings.{LoadInputs, inputs}
 use Rattle.lf_floorplan.specs.LoadedCells.{with_name}
 use Rattle.lf_frame.specs.Loads.{CanBeCell}
 use Rattle.lf_frame.proofs.DesignMade.{macro_within, team_within}

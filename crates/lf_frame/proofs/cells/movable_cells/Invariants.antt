@@ -1,4 +1,4 @@
-use Rattle.lf_frame_checks.specs.Findings.{inputs}
+use Rattle.lf_frame.specs.Findings.{inputs}
 use Rattle.lf_frame.proofs.CellsMade.{AreEarlier, GoesOn}
 use Rattle.lf_frame.proofs.cells.movable_cells.Given as goal
 

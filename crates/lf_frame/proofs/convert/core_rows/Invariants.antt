@@ -1,6 +1,6 @@
 use Rattle.std.proofs.Common.{◌≡◌, ◌++◌, drop, map}
 use Rattle.std.specs.Prelude.{filter}
-use Rattle.lf_frame_checks.specs.Loading.{is_core_row, frame_row}
+use Rattle.lf_frame.specs.Loading.{is_core_row, frame_row}
 use Rattle.lf_frame.proofs.convert.core_rows.Given as goal
 
 -- The core rows so far, followed by those among the remaining rows, are all of them.

@@ -1,5 +1,5 @@
 use Rattle.std.proofs.Common.{◌≡◌, ◌++◌, drop, map}
-use Rattle.lf_frame_claims.specs.Teams.{fences}
+use Rattle.lf_frame.specs.Teams.{fences}
 use Rattle.lf_frame.specs.Loads.{frame_team}
 use Rattle.lf_frame.proofs.convert.fence_teams.Given as goal
 

@@ -1,11 +1,11 @@
 use Rattle.std.proofs.Common.{◌≡◌, length, map, arith}
 use Rattle.std.proofs.lemmas.List.{length-map}
 use Rattle.lf_lex.specs.declared.fault.FaultNumber.TheVariants.{SecondName}
-use Rattle.lf_frame_checks.specs.Findings.{LoadInputs, inputs}
-use Rattle.lf_frame_claims.specs.Refusals.{HasEarlierName}
-use Rattle.lf_frame_claims.specs.Teams.{fences}
+use Rattle.lf_frame.specs.Findings.{LoadInputs, inputs}
+use Rattle.lf_frame.specs.ClaimRefusals.{HasEarlierName}
+use Rattle.lf_frame.specs.Teams.{fences}
 use Rattle.lf_frame.specs.Loads.{frame_team}
-use Rattle.lf_frame_checks.proofs.Gathered.{none_of_name}
+use Rattle.lf_frame.proofs.Gathered.{none_of_name}
 use Rattle.lf_frame.proofs.DesignMade.{can_be_cells, design_made, few}
 use Rattle.lf_frame.proofs.FrameMade.{few_fences}
 use Rattle.lf_frame.proofs.loading.accepted_design.Goals as goal

@@ -1,6 +1,6 @@
 use Rattle.std.proofs.Common.{◌≡◌, Some, sym}
 use Rattle.lf_floorplan.specs.declared.sites.Site.{Site}
-use Rattle.lf_frame_checks.specs.Findings.{LoadInputs, inputs, core_in}
+use Rattle.lf_frame.specs.Findings.{LoadInputs, inputs, core_in}
 use Rattle.lf_frame.proofs.Accepted.{core_there, borrowed_there, core_whole, pitch_there, fixed_sized}
 use Rattle.lf_frame.proofs.FrameMade.{frame_kept}
 use Rattle.lf_frame.proofs.loading.frame_of.Goals as goal

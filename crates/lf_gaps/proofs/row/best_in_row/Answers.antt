@@ -1,9 +1,9 @@
 use Rattle.std.proofs.Common.{◌≡◌, List, [], ◌∷◌, Vec, Global, length, map, sym, ap, subst, ◌∙◌, arith, rules}
 use Rattle.std.specs.Prelude.{All}
 use Rattle.std.proofs.lemmas.Int.{ints}
-use Rattle.lf_spans.specs.declared.span.Span.{Span}
-use Rattle.lf_spans.specs.Grids.{FindsNearest, IsBoundedSpan}
-use Rattle.lf_spans.specs.Spans.{IsMeetAll, IsRising}
+use Rattle.lf_units.specs.declared.span.Span.{Span}
+use Rattle.lf_units.specs.Grids.{FindsNearest, IsBoundedSpan}
+use Rattle.lf_units.specs.Spans.{IsMeetAll, IsRising}
 use Rattle.lf_gaps.specs.Gaps.{FitsOne}
 use Rattle.lf_gaps.specs.Steps.{IsWanted}
 use Rattle.lf_gaps.proofs.Nearest.{near_overlapped_of, found_in_rows, meet_of_one, one_list}

@@ -1,8 +1,8 @@
 use Rattle.std.proofs.Common.{◌≡◌, ℤ, ◌-ℤ◌, w64, to_z, of_z, arith, rules}
 use Rattle.std.proofs.lemmas.Bool.{ltb-true}
 use Rattle.std.proofs.lemmas.Int.{ints}
-use Rattle.lf_spans.specs.Grids.{distance_to}
-use Rattle.lf_spans.proofs.Comparisons.{not_less_of}
+use Rattle.lf_units.specs.Grids.{distance_to}
+use Rattle.lf_units.proofs.Comparisons.{not_less_of}
 use Rattle.lf_gaps.proofs.Nearest.{before_is}
 use Rattle.lf_gaps.proofs.row.is_before.Goals as goal
 

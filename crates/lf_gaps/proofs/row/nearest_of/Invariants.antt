@@ -1,5 +1,5 @@
 use Rattle.std.proofs.Common.{◌≤◌, length, drop}
-use Rattle.lf_spans.specs.Grids.{FindsNearest}
+use Rattle.lf_units.specs.Grids.{FindsNearest}
 use Rattle.lf_gaps.specs.Gaps.{FitsOne}
 use Rattle.lf_gaps.proofs.row.nearest_of.Given as goal
 

@@ -1,5 +1,5 @@
 use Rattle.std.proofs.Common.{take}
-use Rattle.lf_spans.specs.Grids.{FindsNearest}
+use Rattle.lf_units.specs.Grids.{FindsNearest}
 use Rattle.lf_gaps.specs.Gaps.{FitsOne}
 use Rattle.lf_gaps.proofs.row.nearest_rightwards.Given as goal
 

@@ -7,7 +7,7 @@ use Rattle.lf_floorplan.specs.declared.macros.Macro.{Macro}
 use Rattle.lf_floorplan.specs.declared.place.Place.{Place}
 use Rattle.lf_floorplan.specs.Bounds.{IsNearDefRect}
 use Rattle.lf_floorplan.specs.Boxes.{IsSized, macro_of, size_of}
-use Rattle.lf_frame_index.specs.Indexes.{IsExtentOf, FrameIndexView}
+use Rattle.lf_segments.specs.Indexes.{IsExtentOf, FrameIndexView}
 use Rattle.lf_rules.specs.Choice.{IsChoice, PlacementQuery, spot_of}
 use Rattle.lf_rules.specs.Team.{query_from}
 use Rattle.lf_cells.specs.Cells.{cells_of}

@@ -4,7 +4,7 @@ use Rattle.std.proofs.lemmas.Int.{ints}
 use Rattle.std.proofs.lemmas.Result.{IfOk-weaker}
 use Rattle.lf_floorplan.specs.declared.place.Place.{Place}
 use Rattle.lf_rules.specs.Choice.{SpotPlace, spot_of}
-use Rattle.lf_frame_index.specs.RowsByY.{IsEntryOf}
+use Rattle.lf_segments.specs.RowsByY.{IsEntryOf}
 use Rattle.lf_legalize.specs.Extents.{IsOnEntries, IsWithin, ScansPlacesWithin}
 use Rattle.lf_legalize.specs.RowSearches.{IsChoiceAmong, query_of_search}
 use Rattle.lf_legalize.proofs.Rounds.{all_seen, chosen_near, other_side, run_holds, searched_both}

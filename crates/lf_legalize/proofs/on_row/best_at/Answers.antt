@@ -1,7 +1,7 @@
 use Rattle.std.proofs.Common.{ℤ, Option, map, sym, subst, FitsSigned, w64, rules}
 use Rattle.std.proofs.lemmas.Int.{to_z-of_z}
 use Rattle.lf_floorplan.specs.Bounds.{IsDefNumber}
-use Rattle.lf_spans.specs.Grids.{FindsNearest, IsNearest}
+use Rattle.lf_units.specs.Grids.{FindsNearest, IsNearest}
 use Rattle.lf_legalize.specs.RowSearches.{IsBestAmong, IsOnRowIn, query_of_search}
 use Rattle.lf_legalize.proofs.RowFree.{spot_on}
 use Rattle.lf_legalize.proofs.RunLemmas.{core_at}

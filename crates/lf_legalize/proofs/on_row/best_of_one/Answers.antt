@@ -1,6 +1,6 @@
 use Rattle.std.proofs.Common.{◌≡◌, ℕ, List, [], Vec, Global, get_or, length, map, refl, sym, subst, rules}
-use Rattle.lf_frame_index.specs.Indexes.{FrameIndexView}
-use Rattle.lf_spans.specs.declared.span.Span.{Span}
+use Rattle.lf_segments.specs.Indexes.{FrameIndexView}
+use Rattle.lf_units.specs.declared.span.Span.{Span}
 use Rattle.lf_legalize.specs.Levels.{AreLevels, HasBareLevel}
 use Rattle.lf_legalize.proofs.LevelLemmas.{bare_bottom, one_level}
 use Rattle.lf_legalize.proofs.RowChoice.{none_bare}

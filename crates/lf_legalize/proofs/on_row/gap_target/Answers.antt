@@ -1,6 +1,6 @@
 use Rattle.std.proofs.Common.{ℤ, pos, ◌<ℤ◌, FitsSigned, w64, sym, subst, rules}
 use Rattle.std.proofs.lemmas.Int.{to_z-of_z}
-use Rattle.lf_spans.specs.Grids.{IsBounded, IsGrid}
+use Rattle.lf_units.specs.Grids.{IsBounded, IsGrid}
 use Rattle.lf_legalize.proofs.RowChoice.{grid_is, width_is}
 use Rattle.lf_legalize.proofs.RowLegal.{wide}
 use Rattle.lf_legalize.proofs.on_row.gap_target.Goals as goal

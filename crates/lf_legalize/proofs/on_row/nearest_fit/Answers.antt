@@ -1,7 +1,7 @@
 use Rattle.std.proofs.Common.{ℤ, map, FitsSigned, to_z, of_z, w64, subst, rules}
 use Rattle.std.specs.Prelude.{IfOk}
 use Rattle.std.proofs.lemmas.Int.{to_z-of_z}
-use Rattle.lf_spans.specs.Grids.{FindsNearest}
+use Rattle.lf_units.specs.Grids.{FindsNearest}
 use Rattle.lf_gaps.specs.Gaps.{FitsRows}
 use Rattle.lf_legalize.proofs.on_row.nearest_fit.Goals as goal
 

@@ -1,8 +1,8 @@
 use Rattle.std.proofs.Common.{ℤ, map, sym, subst, FitsSigned, to_z, of_z, w64, rules}
 use Rattle.std.proofs.lemmas.Int.{to_z-of_z}
 use Rattle.std.proofs.lemmas.Result.{IfOk-weaker}
-use Rattle.lf_spans.specs.declared.grid.SiteGrid.{SiteGrid}
-use Rattle.lf_spans.specs.Grids.{FindsNearest, IsGrid}
+use Rattle.lf_units.specs.declared.grid.SiteGrid.{SiteGrid}
+use Rattle.lf_units.specs.Grids.{FindsNearest, IsGrid}
 use Rattle.lf_gaps.specs.Gaps.{FitsRows}
 use Rattle.lf_legalize.proofs.RowChoice.{IsFit, fit_in_def, grid_is, level_bounded, level_of_list, nearest_to_target, width_is}
 use Rattle.lf_legalize.proofs.on_row.nearest_x.Goals as goal

@@ -1,10 +1,10 @@
 use Rattle.std.proofs.Common.{◌≡◌, ◌∙◌, ℕ, ℤ, FitsSigned, w64, get_or, refl, rules, subst, sym}
 use Rattle.std.proofs.lemmas.Int.{to_z-of_z}
 use Rattle.std.proofs.lemmas.Result.{IfOk-weaker}
-use Rattle.lf_spans.specs.Spans.{IsRising}
+use Rattle.lf_units.specs.Spans.{IsRising}
 use Rattle.std.specs.Prelude.{slice_index_or, []}
-use Rattle.lf_frame_index.specs.Indexes.{FrameIndexView}
-use Rattle.lf_frame_index.specs.Strips.{AreNear}
+use Rattle.lf_segments.specs.Indexes.{FrameIndexView}
+use Rattle.lf_segments.specs.Strips.{AreNear}
 use Rattle.lf_occupancy.specs.Views.{IsFreeInRow}
 use Rattle.lf_legalize.specs.RowSearches.{padding_in}
 use Rattle.lf_legalize.specs.Levels.{AreWithoutSoft, AreOpenInRow}

@@ -1,6 +1,6 @@
 use Rattle.std.proofs.Common.{List, sym, subst}
-use Rattle.lf_spans.specs.declared.span.Span.{Span}
-use Rattle.lf_spans.specs.Spans.{IsMinus, IsRising}
+use Rattle.lf_units.specs.declared.span.Span.{Span}
+use Rattle.lf_units.specs.Spans.{IsMinus, IsRising}
 use Rattle.lf_legalize.proofs.SoftLemmas.{first_none, first_next, first_end}
 use Rattle.lf_legalize.proofs.open_spans.without_soft.Goals as goal
 

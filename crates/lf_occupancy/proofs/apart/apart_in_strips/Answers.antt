@@ -1,7 +1,7 @@
 use Rattle.std.proofs.Common.{◌≡◌, ◌<◌, List, length, get_or, ap, arith, pos, ◌*ℤ◌, subst, sym, ◌∙◌}
 use Rattle.lf_units.specs.declared.geometry.Rect.{Rect}
-use Rattle.lf_frame_index.specs.declared.strip.Strip.{Strip}
-use Rattle.lf_frame_index.specs.Indexes.{IsInside}
+use Rattle.lf_segments.specs.declared.strip.Strip.{Strip}
+use Rattle.lf_segments.specs.Indexes.{IsInside}
 use Rattle.lf_rules.specs.Padding.{wider}
 use Rattle.lf_occupancy.specs.Strips.{widened_strips}
 use Rattle.lf_occupancy.proofs.Around.{widened_at, widened_many}

@@ -1,6 +1,6 @@
 use Rattle.std.proofs.Common.{◌≡◌, [], ℤ, pos, List, get_or, ap, arith, of_z, rules, to_z, w64, ◌∙◌}
 use Rattle.std.proofs.lemmas.Int.{ints, clamps}
-use Rattle.lf_spans.specs.declared.span.Span.{Span}
+use Rattle.lf_units.specs.declared.span.Span.{Span}
 use Rattle.lf_occupancy.specs.declared.strip_marks.Mark.{Mark}
 use Rattle.lf_occupancy.specs.MarkLists.{marked_entry}
 use Rattle.lf_occupancy.proofs.Separating.{one_more_ends}

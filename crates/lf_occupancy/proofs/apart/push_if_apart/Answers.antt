@@ -1,8 +1,8 @@
 use Rattle.std.proofs.Common.{◌≡◌, ◌<◌, ◌≤◌, ◌+◌, ℕ, pos, ◌≤ℤ◌, [], List, get_or, length, ap, arith, subst, sym, ◌∙◌}
 use Rattle.std.specs.Prelude.{IsSomeAnd}
 use Rattle.std.proofs.lemmas.Int.{ints, clamps}
-use Rattle.lf_spans.specs.declared.span.Span.{Span}
-use Rattle.lf_frame_index.specs.Indexes.{IsInside}
+use Rattle.lf_units.specs.declared.span.Span.{Span}
+use Rattle.lf_segments.specs.Indexes.{IsInside}
 use Rattle.lf_occupancy.specs.declared.strip_marks.Mark.{Mark}
 use Rattle.lf_occupancy.specs.MarkLists.{AreRising, marked_entry}
 use Rattle.lf_occupancy.specs.Views.{OverlapsNoBox, cell_box}

@@ -1,5 +1,5 @@
 use Rattle.std.proofs.Common.{ℕ, List, ap, length, subst, sym, ◌∙◌}
-use Rattle.lf_frame_index.specs.declared.strip.Strip.{Strip}
+use Rattle.lf_segments.specs.declared.strip.Strip.{Strip}
 use Rattle.lf_occupancy.specs.Building.{HaveNoMarks, PrecedesCell}
 use Rattle.lf_occupancy.specs.Strips.{widened_strips}
 use Rattle.lf_occupancy.proofs.Around.{widened_many}

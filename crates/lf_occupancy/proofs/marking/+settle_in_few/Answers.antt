@@ -1,6 +1,6 @@
 use Rattle.std.proofs.Common.{◌-◌, ◌∙◌, arith, get_or, length, pos, rules}
 use Rattle.std.proofs.lemmas.List.{get_or_default}
-use Rattle.lf_frame_index.specs.declared.rows_by_y.RowEntry.{RowEntry}
+use Rattle.lf_segments.specs.declared.rows_by_y.RowEntry.{RowEntry}
 use Rattle.lf_occupancy.proofs.Reaching.{rising_kept}
 use Rattle.lf_occupancy.proofs.Settling.{settled_further, settled_takes}
 use Rattle.lf_occupancy.specs.Widened.{all_widened}

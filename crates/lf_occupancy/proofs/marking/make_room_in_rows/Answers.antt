@@ -1,7 +1,7 @@
 use Rattle.std.proofs.Common.{ℕ, ◌∙◌, List, arith, get_or, subst}
 use Rattle.std.proofs.lemmas.List.{get_or_default, take_all}
-use Rattle.lf_spans.proofs.Anys.{any_nil}
-use Rattle.lf_frame_index.specs.declared.rows_by_y.RowEntry.{RowEntry}
+use Rattle.lf_units.proofs.Anys.{any_nil}
+use Rattle.lf_segments.specs.declared.rows_by_y.RowEntry.{RowEntry}
 use Rattle.lf_occupancy.specs.declared.strip_marks.StripMarks.{StripMarks}
 use Rattle.lf_occupancy.specs.MarkLists.{HasRoomOf}
 use Rattle.lf_occupancy.specs.Strips.{IsReached}

@@ -1,8 +1,8 @@
 use Rattle.std.proofs.Common.{◌≡◌, ◌<◌, ◌∙◌, List, arith, get_or, length, subst, sym}
 use Rattle.std.specs.Int.{int_max}
 use Rattle.std.proofs.lemmas.List.{get_or_default, take_all}
-use Rattle.lf_spans.proofs.Anys.{any_nil}
-use Rattle.lf_frame_index.specs.declared.rows_by_y.RowEntry.{RowEntry}
+use Rattle.lf_units.proofs.Anys.{any_nil}
+use Rattle.lf_segments.specs.declared.rows_by_y.RowEntry.{RowEntry}
 use Rattle.lf_occupancy.specs.MarkLists.{HasAtMostOne, IsUnmarked}
 use Rattle.lf_occupancy.specs.Strips.{IsReached}
 use Rattle.lf_occupancy.specs.Strips.{AreChanged}

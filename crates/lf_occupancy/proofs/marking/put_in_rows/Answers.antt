@@ -1,7 +1,7 @@
 use Rattle.std.proofs.Common.{◌≡◌, ◌<◌, ◌∙◌, List, arith, get_or, length, sym, subst}
 use Rattle.std.proofs.lemmas.List.{get_or_default, take_all}
-use Rattle.lf_spans.proofs.Anys.{any_nil}
-use Rattle.lf_frame_index.specs.declared.rows_by_y.RowEntry.{RowEntry}
+use Rattle.lf_units.proofs.Anys.{any_nil}
+use Rattle.lf_segments.specs.declared.rows_by_y.RowEntry.{RowEntry}
 use Rattle.lf_occupancy.specs.Strips.{IsReached, PutsIn}
 use Rattle.lf_occupancy.specs.Strips.{AreChanged}
 use Rattle.lf_occupancy.proofs.Changes.{none_changed, other_row, rows_further}

@@ -1,7 +1,7 @@
 use Rattle.std.proofs.Common.{[], get_or, ℤ, arith}
 use Rattle.std.specs.Int.{int_max, int_min}
 use Rattle.std.proofs.lemmas.Int.{ints, clamps}
-use Rattle.lf_spans.specs.Spans.{IsFree, IsFreeIn}
+use Rattle.lf_units.specs.Spans.{IsFree, IsFreeIn}
 use Rattle.lf_gaps.proofs.Nearest.{found_weaker}
 use Rattle.lf_rules.specs.Padding.{HasRoomAround}
 use Rattle.lf_occupancy.specs.MarkLists.{HasPoints, all_padded, marked_entries, others_in, strip_view, spans_in}

@@ -1,8 +1,8 @@
 use Rattle.std.proofs.Common.{◌≡◌, ◌<◌, ◌++◌, List, [], arith, length, get_or, ap, subst, ◌∙◌}
 use Rattle.std.proofs.lemmas.List.{get_or_default}
-use Rattle.lf_spans.specs.declared.span.Span.{Span}
-use Rattle.lf_spans.specs.Spans.{IsFreeIn}
-use Rattle.lf_frame_index.specs.declared.strip.Strip.{Strip}
+use Rattle.lf_units.specs.declared.span.Span.{Span}
+use Rattle.lf_units.specs.Spans.{IsFreeIn}
+use Rattle.lf_segments.specs.declared.strip.Strip.{Strip}
 use Rattle.lf_gaps.proofs.Nearest.{lists_joined, none_fits}
 use Rattle.lf_occupancy.specs.MarkLists.{all_padded, others_in, strip_view, spans_in, x_range}
 use Rattle.lf_occupancy.specs.Strips.{widened_strips, strip_views}

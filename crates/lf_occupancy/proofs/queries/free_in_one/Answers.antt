@@ -1,9 +1,9 @@
 use Rattle.std.proofs.Common.{◌≡◌, ◌<◌, List, [], ap, arith, get_or, length, subst, sym, ◌∙◌}
 use Rattle.std.proofs.lemmas.List.{get_or_default}
 use Rattle.std.proofs.lemmas.Result.{IfOk-weaker}
-use Rattle.lf_spans.specs.declared.span.Span.{Span}
-use Rattle.lf_spans.specs.Spans.{IsFreeIn}
-use Rattle.lf_frame_index.specs.declared.strip.Strip.{Strip}
+use Rattle.lf_units.specs.declared.span.Span.{Span}
+use Rattle.lf_units.specs.Spans.{IsFreeIn}
+use Rattle.lf_segments.specs.declared.strip.Strip.{Strip}
 use Rattle.lf_occupancy.specs.MarkLists.{all_padded, others_in, strip_view, spans_in, x_range}
 use Rattle.lf_occupancy.specs.Strips.{AreFreeSpansOfStrip, widened_strips, strip_views}
 use Rattle.lf_occupancy.proofs.Around.{widened_many}

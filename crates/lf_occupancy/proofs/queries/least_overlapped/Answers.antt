@@ -1,8 +1,8 @@
 use Rattle.std.proofs.Common.{List, arith, subst, None}
 use Rattle.std.specs.Prelude.{Any}
 use Rattle.std.proofs.lemmas.List.{get_or_default, take_all}
-use Rattle.lf_spans.proofs.Anys.{any_nil}
-use Rattle.lf_frame_index.specs.declared.rows_by_y.RowEntry.{RowEntry}
+use Rattle.lf_units.proofs.Anys.{any_nil}
+use Rattle.lf_segments.specs.declared.rows_by_y.RowEntry.{RowEntry}
 use Rattle.lf_occupancy.specs.MarkLists.{IsLeast}
 use Rattle.lf_occupancy.specs.Strips.{OverlapsInRow, strip_views}
 use Rattle.lf_occupancy.proofs.Around.{around, strips_widened}

@@ -2,8 +2,8 @@ use Rattle.std.proofs.Common.{List, arith, length, subst, ◌≡◌}
 use Rattle.std.specs.Vec.{vec_capacity}
 use Rattle.std.proofs.lemmas.List.{get_or_default, length-map, take_all}
 use Rattle.lf_units.specs.declared.geometry.Rect.{Rect}
-use Rattle.lf_frame_index.specs.declared.rows_by_y.RowEntry.{RowEntry}
-use Rattle.lf_frame_index.specs.Strips.{AreRowsNear}
+use Rattle.lf_segments.specs.declared.rows_by_y.RowEntry.{RowEntry}
+use Rattle.lf_segments.specs.Strips.{AreRowsNear}
 use Rattle.lf_occupancy.specs.declared.strip_marks.StripMarks.{StripMarks}
 use Rattle.lf_occupancy.specs.Strips.{AreChanged, IsReached}
 use Rattle.lf_occupancy.specs.StripCounting.{IsShiftedAt}

@@ -1,5 +1,5 @@
 use Rattle.std.proofs.Common.{[], get_or}
-use Rattle.lf_spans.proofs.Frees.{Frees}
+use Rattle.lf_units.proofs.Frees.{Frees}
 use Rattle.lf_occupancy.specs.MarkLists.{marked_entries}
 use Rattle.lf_occupancy.proofs.Walking.{passed, taken}
 use Rattle.lf_occupancy.proofs.strip_marks.free_beside.Given as goal

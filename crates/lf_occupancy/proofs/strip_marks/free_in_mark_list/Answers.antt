@@ -2,7 +2,7 @@ use Rattle.std.proofs.Common.{[], get_or, ℤ, arith}
 use Rattle.std.specs.Int.{int_max, int_min}
 use Rattle.std.proofs.lemmas.Int.{ints, clamps}
 use Rattle.std.proofs.lemmas.Result.{IfOk-weaker}
-use Rattle.lf_spans.specs.Spans.{IsFree, IsFreeIn}
+use Rattle.lf_units.specs.Spans.{IsFree, IsFreeIn}
 use Rattle.lf_rules.specs.Padding.{HasRoomAround}
 use Rattle.lf_occupancy.specs.MarkLists.{HasPoints, all_padded, marked_entries, others_in, strip_view, spans_in}
 use Rattle.lf_occupancy.proofs.Laning.{marks_rise}

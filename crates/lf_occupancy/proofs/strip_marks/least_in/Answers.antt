@@ -5,7 +5,7 @@ use Rattle.lf_occupancy.specs.declared.strip_marks.Mark.{Mark}
 use Rattle.lf_occupancy.specs.MarkLists.{IsLeast, OverlapsEntry, marked_entry}
 use Rattle.lf_occupancy.proofs.Leasts.{least_alike, least_more, least_of_none}
 use Rattle.lf_occupancy.proofs.Lists.{any_made, any_unmade}
-use Rattle.lf_spans.proofs.Anys.{any_nil}
+use Rattle.lf_units.proofs.Anys.{any_nil}
 use Rattle.lf_occupancy.proofs.strip_marks.least_in.Goals as goal
 
 pub lesser-least-requires : goal.lesser-least-requires

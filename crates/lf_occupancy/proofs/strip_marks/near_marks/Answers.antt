@@ -1,7 +1,7 @@
 use Rattle.std.proofs.Common.{◌≡◌, ◌-◌, List, get_or, length, take, drop, ap, ◌∙◌, arith}
 use Rattle.std.proofs.lemmas.Int.{ints}
 use Rattle.std.proofs.lemmas.List.Elements.{All-take}
-use Rattle.lf_rtree.proofs.Lists.{rest_from}
+use Rattle.lf_units.proofs.Lists.{rest_from}
 use Rattle.lf_occupancy.specs.declared.strip_marks.Mark.{Mark}
 use Rattle.lf_occupancy.specs.MarkLists.{MarkIsOf, marked_entry}
 use Rattle.lf_occupancy.proofs.Showing.{near_marked, rest_reported}

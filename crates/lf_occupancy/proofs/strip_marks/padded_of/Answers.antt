@@ -2,7 +2,7 @@ use Rattle.std.proofs.Common.{◌≡◌, [], get_or, ap, ◌∙◌, arith}
 use Rattle.std.proofs.lemmas.Int.{ints}
 use Rattle.lf_occupancy.specs.declared.strip_marks.Entry.{Entry}
 use Rattle.lf_occupancy.specs.MarkLists.{marked_entries, wider_range}
-use Rattle.lf_spans.specs.declared.span.Span.{Span}
+use Rattle.lf_units.specs.declared.span.Span.{Span}
 use Rattle.lf_occupancy.proofs.Laning.{entries_many}
 use Rattle.lf_occupancy.proofs.Padded.{no_entry, range_there, same_entry, spans_further}
 use Rattle.lf_occupancy.proofs.strip_marks.padded_of.Goals as goal

@@ -1,6 +1,6 @@
 use Rattle.std.proofs.Common.{◌≡◌, ◌∙◌, ℤ, ap, arith}
 use Rattle.std.proofs.lemmas.Int.{ints, clamps}
-use Rattle.lf_spans.specs.declared.span.Span.{Span}
+use Rattle.lf_units.specs.declared.span.Span.{Span}
 use Rattle.lf_occupancy.proofs.strip_marks.range_at.Goals as goal
 
 same_span : (a b c d : ℤ) → a ≡ c → b ≡ d → ◌≡◌ {A = Span} (record { lo = a; hi = b }) (record { lo = c; hi = d })

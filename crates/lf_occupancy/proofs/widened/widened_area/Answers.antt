@@ -1,5 +1,5 @@
 use Rattle.std.proofs.Common.{◌≡◌, ◌<◌, ℤ, pos, ◌*ℤ◌, List, arith, get_or, length, subst, sym, ap, ◌∙◌, rules, to_z, of_z, w64}
-use Rattle.lf_frame_index.specs.declared.strip.Strip.{Strip}
+use Rattle.lf_segments.specs.declared.strip.Strip.{Strip}
 use Rattle.lf_rules.specs.Padding.{wider}
 use Rattle.lf_occupancy.specs.MarkLists.{IsNearZero}
 use Rattle.lf_occupancy.specs.Strips.{widened_strips}

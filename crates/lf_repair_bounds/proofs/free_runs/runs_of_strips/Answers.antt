@@ -1,6 +1,6 @@
 use Rattle.std.proofs.Common.{pos, refl}
 use Rattle.std.proofs.lemmas.Bool.{false≢true}
-use Rattle.lf_frame_index.specs.declared.strip.Strip.{Strip}
+use Rattle.lf_segments.specs.declared.strip.Strip.{Strip}
 use Rattle.lf_repair_bounds.proofs.TeamRunLemmas.{runs_more, runs_skip}
 use Rattle.lf_repair_bounds.proofs.free_runs.runs_of_strips.Goals as goal
 

@@ -1,7 +1,7 @@
 use Rattle.std.proofs.Common.{List, sym, subst}
 use Rattle.std.specs.Prelude.{All}
 use Rattle.std.proofs.lemmas.Result.{IfOk-weaker}
-use Rattle.lf_frame_index.specs.declared.strip.Strip.{Strip}
+use Rattle.lf_segments.specs.declared.strip.Strip.{Strip}
 use Rattle.lf_cells.specs.Cells.{cells_of}
 use Rattle.lf_repair_bounds.specs.FreeRuns.{AreRunsOfStrips, IsInRow}
 use Rattle.lf_repair_bounds.specs.Gaps.{placed_team}

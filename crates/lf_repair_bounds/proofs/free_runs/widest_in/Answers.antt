@@ -1,6 +1,6 @@
 use Rattle.std.proofs.Common.{List, sym, subst}
-use Rattle.lf_rtree.specs.declared.placed.Placed.{Placed}
-use Rattle.lf_rtree.specs.Near.{AreAllOverlapping}
+use Rattle.lf_units.specs.declared.placed.Placed.{Placed}
+use Rattle.lf_units.specs.Near.{AreAllOverlapping}
 use Rattle.lf_repair_bounds.specs.declared.site_runs.SiteRange.{SiteRange}
 use Rattle.lf_repair_bounds.specs.SiteRuns.{IsLongestRun}
 use Rattle.lf_repair_bounds.proofs.StripRunLemmas.{widest_of_longest, width_fits}

@@ -1,6 +1,6 @@
 use Rattle.std.proofs.Common.{◌≡◌, ◌∙◌, [], ap, subst, sym}
 use Rattle.lf_floorplan.specs.declared.frame.Frame.{Frame}
-use Rattle.lf_frame_index.specs.Indexes.{FrameIndexView, IsIndexOf}
+use Rattle.lf_segments.specs.Indexes.{FrameIndexView, IsIndexOf}
 use Rattle.lf_repair_bounds.specs.EmptyFloors.{EmptyFloorView}
 use Rattle.lf_repair_bounds.proofs.nearest_place.keeps_rules.Goals as goal
 

@@ -3,7 +3,7 @@ use Rattle.std.specs.Prelude.{slice_get, option_map}
 use Rattle.std.proofs.lemmas.Option.{slice_get-map, slice_get_read}
 use Rattle.std.proofs.lemmas.List.{map-append}
 use Rattle.lf_rules.specs.declared.report_types.Listed.{Listed}
-use Rattle.lf_rtree.specs.declared.placed.Placed.{Placed}
+use Rattle.lf_units.specs.declared.placed.Placed.{Placed}
 use Rattle.lf_reports.specs.Reports.{with_byte_name}
 use Rattle.lf_reports.proofs.VerdictLists.{fetched_more}
 use Rattle.lf_reports.proofs.verdicts.fetch.Goals as goal

@@ -3,7 +3,7 @@ use Rattle.std.specs.Prelude.{slice_get, option_map}
 use Rattle.std.proofs.lemmas.List.{append-nil, take_all}
 use Rattle.std.proofs.lemmas.Option.{slice_get-map, slice_get_read}
 use Rattle.std.proofs.Math.ListN.{length-map}
-use Rattle.lf_rtree.specs.declared.placed.Placed.{Placed}
+use Rattle.lf_units.specs.declared.placed.Placed.{Placed}
 use Rattle.lf_reports.specs.Reports.{with_byte_name, HaveVerdicts}
 use Rattle.lf_reports.proofs.VerdictLists.{fetched_at, listed_there, next_done}
 use Rattle.lf_reports.proofs.verdicts.put_verdicts.Goals as goal

@@ -1,5 +1,5 @@
 use Rattle.std.proofs.Common.{◌≡◌, ◌++◌, List, length, map, take}
-use Rattle.lf_rtree.specs.declared.placed.Placed.{Placed}
+use Rattle.lf_units.specs.declared.placed.Placed.{Placed}
 use Rattle.lf_rules.specs.Legalizer.{Legalizer}
 use Rattle.lf_reports.specs.Reports.{with_byte_name, HaveVerdicts}
 use Rattle.lf_reports.proofs.verdicts.put_verdicts.Given as goal

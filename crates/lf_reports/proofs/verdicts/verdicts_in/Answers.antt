@@ -1,7 +1,7 @@
 use Rattle.std.proofs.Common.{◌≡◌, ◌∙◌, ◌<◌, ℕ, List, All, [], length, map, sym, subst, rules}
 use Rattle.std.proofs.lemmas.List.Elements.{All-take, All-drop}
 use Rattle.std.proofs.Math.ListN.{length-map}
-use Rattle.lf_rtree.specs.declared.placed.Placed.{Placed}
+use Rattle.lf_units.specs.declared.placed.Placed.{Placed}
 use Rattle.lf_reports.specs.Reports.{with_byte_name, listed_member}
 use Rattle.lf_reports.proofs.VerdictLists.{numbers_known, none_yet, pass_some, all_passed}
 use Rattle.lf_reports.proofs.verdicts.verdicts_in.Goals as goal

@@ -7,7 +7,7 @@ use Rattle.lf_rules.specs.declared.rule.Rule.TheVariants.{Overlap}
 use Rattle.lf_rules.specs.declared.rule.Broken.{Broken}
 use Rattle.lf_units.specs.Area.{SharesPoint}
 use Rattle.std.proofs.lemmas.Grind.{common_steps}
-use Rattle.lf_rtree.specs.declared.placed.Placed.{Placed}
+use Rattle.lf_units.specs.declared.placed.Placed.{Placed}
 use Rattle.lf_rules.specs.Legality.{IsFirstOverlapping, Candidate, IsFirstBroken, number_of, padded_box}
 use Rattle.lf_rules.specs.Legalizer.{IsVerdict}
 use Rattle.lf_rules.proofs.LegalParts.{rule_same}

@@ -1,5 +1,5 @@
 use Rattle.std.proofs.Common.{ℕ, ◌<◌, get_or}
-use Rattle.lf_rtree.specs.declared.placed.Placed.{Placed}
+use Rattle.lf_units.specs.declared.placed.Placed.{Placed}
 use Rattle.lf_units.specs.Area.{SharesPoint}
 use Rattle.lf_rules.proofs.overlap.first_overlapping.Given as goal
 

@@ -1,7 +1,7 @@
 use Rattle.std.proofs.Common.{List, subst}
 use Rattle.std.proofs.lemmas.Result.{IfOk-weaker}
-use Rattle.lf_spans.specs.declared.span.Span.{Span}
-use Rattle.lf_spans.specs.Spans.{IsJoin, IsMeet}
+use Rattle.lf_units.specs.declared.span.Span.{Span}
+use Rattle.lf_units.specs.Spans.{IsJoin, IsMeet}
 use Rattle.lf_segments.specs.Boxes.{IsCoveredAt}
 use Rattle.lf_segments.proofs.CoverLemmas.{covered_of}
 use Rattle.lf_segments.proofs.cover.covered_at.Goals as goal

@@ -1,8 +1,8 @@
 use Rattle.std.proofs.Common.{map, List, subst, sym}
 use Rattle.std.proofs.lemmas.List.{map-id}
 use Rattle.std.proofs.lemmas.Result.{IfOk-weaker}
-use Rattle.lf_spans.specs.declared.span.Span.{Span}
-use Rattle.lf_spans.specs.Spans.{IsFree, IsInOrder}
+use Rattle.lf_units.specs.declared.span.Span.{Span}
+use Rattle.lf_units.specs.Spans.{IsFree, IsInOrder}
 use Rattle.lf_segments.specs.Boxes.{x_extent}
 use Rattle.lf_segments.proofs.CoverLemmas.{free_moved}
 use Rattle.lf_segments.proofs.cover.free_beside.Goals as goal

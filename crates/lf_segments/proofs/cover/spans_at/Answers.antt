@@ -1,8 +1,8 @@
 use Rattle.std.proofs.Common.{refl, List, ◌+◌, take, ap, sym, subst, ◌∙◌, ◌∷◌, ◌++◌, [], arith}
 use Rattle.std.proofs.lemmas.Bool.{false≢true}
 use Rattle.std.proofs.lemmas.List.{take_all}
-use Rattle.lf_spans.specs.declared.span.Span.{Span}
-use Rattle.lf_rtree.specs.declared.placed.Placed.{Placed}
+use Rattle.lf_units.specs.declared.span.Span.{Span}
+use Rattle.lf_units.specs.declared.placed.Placed.{Placed}
 use Rattle.lf_segments.specs.Boxes.{AreSpansAt}
 use Rattle.lf_segments.proofs.CoverLemmas.{spans_more, spans_skip}
 use Rattle.lf_segments.proofs.cover.spans_at.Goals as goal

@@ -1,6 +1,6 @@
 use Rattle.std.proofs.Common.{◌≡◌, rules}
 use Rattle.std.proofs.lemmas.List.Sorted.{answers_always}
-use Rattle.lf_spans.proofs.Orders.{in_order_of_sorted}
+use Rattle.lf_units.proofs.Orders.{in_order_of_sorted}
 use Rattle.lf_segments.proofs.cover.spans_in_order.Goals as goal
 
 pub returns-clause-order : goal.returns-clause-order

@@ -1,7 +1,7 @@
 use Rattle.std.proofs.Common.{ℕ, map, subst}
 use Rattle.std.proofs.lemmas.Result.{IfOk-weaker}
 use Rattle.lf_units.specs.declared.geometry.Rect.{Rect}
-use Rattle.lf_spans.specs.Spans.{IsFree}
+use Rattle.lf_units.specs.Spans.{IsFree}
 use Rattle.lf_segments.specs.Boxes.{x_extent, AreClear, IsNextGroup}
 use Rattle.lf_segments.proofs.GroupLemmas.{clear_spans_of}
 use Rattle.lf_segments.proofs.cut_row.clear_spans.Goals as goal

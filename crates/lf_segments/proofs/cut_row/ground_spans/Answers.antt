@@ -1,7 +1,7 @@
 use Rattle.std.proofs.Common.{length, map, subst}
 use Rattle.std.proofs.lemmas.Result.{IfOk-weaker}
 use Rattle.lf_units.specs.declared.geometry.Rect.{Rect}
-use Rattle.lf_spans.specs.Spans.{IsFree}
+use Rattle.lf_units.specs.Spans.{IsFree}
 use Rattle.lf_segments.specs.Boxes.{x_extent, AreOpen}
 use Rattle.lf_segments.proofs.GroupLemmas.{ground_spans_of}
 use Rattle.lf_segments.proofs.cut_row.ground_spans.Goals as goal

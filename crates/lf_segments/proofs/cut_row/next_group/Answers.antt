@@ -1,6 +1,6 @@
 use Rattle.std.proofs.Common.{◌-◌, length, take, drop, rules}
 use Rattle.std.proofs.lemmas.List.Sorted.{IsNonDecreasingBy-take, IsNonDecreasingBy-drop}
-use Rattle.lf_rtree.proofs.Lists.{rest_from}
+use Rattle.lf_units.proofs.Lists.{rest_from}
 use Rattle.lf_segments.proofs.GroupLemmas.{group_at}
 use Rattle.lf_segments.proofs.cut_row.next_group.Goals as goal
 

@@ -1,5 +1,5 @@
 use Rattle.std.proofs.Common.{◌≡◌, ℕ, ◌<◌, ◌≤◌, ◌++◌, List, length, map, get_or, subst, ap, ◌∙◌, arith, rules}
-use Rattle.lf_spans.specs.declared.span.Span.{Span}
+use Rattle.lf_units.specs.declared.span.Span.{Span}
 use Rattle.lf_segments.specs.Boxes.{segment_of, AddsRow}
 use Rattle.lf_segments.proofs.GroupLemmas.{no_box, first_number, above_all, not_open, fence_spans_of, touch_group, area_high}
 use Rattle.lf_segments.proofs.RowLemmas.{row_start, row_skip, row_more}

@@ -1,5 +1,5 @@
 use Rattle.std.proofs.Common.{◌++◌, ◌∙◌, List, ℕ, length, map, ap}
-use Rattle.lf_spans.specs.declared.span.Span.{Span}
+use Rattle.lf_units.specs.declared.span.Span.{Span}
 use Rattle.lf_segments.specs.Boxes.{segment_of}
 use Rattle.lf_segments.proofs.RowLemmas.{row_more}
 use Rattle.lf_segments.proofs.cut_row.push_row.Goals as goal

@@ -1,6 +1,6 @@
 use Rattle.std.proofs.Common.{refl, arith}
 use Rattle.std.proofs.lemmas.Bool.{false≢true}
-use Rattle.lf_spans.specs.Spans.{IsFilled}
+use Rattle.lf_units.specs.Spans.{IsFilled}
 use Rattle.lf_segments.specs.Segments.{ComesBefore, IsOf}
 use Rattle.lf_segments.proofs.RunLemmas.{run_pairs, run_all, xs_rise, ends_rise, none_at, none_between, none_of_run, found_at, not_after}
 use Rattle.lf_segments.proofs.segment_runs.place_in.Goals as goal

@@ -1,7 +1,7 @@
 use Rattle.std.proofs.Common.{◌-◌, length, take, drop, ltb, leb, rules}
 use Rattle.std.proofs.lemmas.List.Sorted.{IsPartitionPoint-from_clause, IsPartitionedBy-ltb, IsPartitionedBy-leb}
 use Rattle.std.proofs.lemmas.List.Sorted.{IsNonDecreasingBy-take, IsNonDecreasingBy-drop}
-use Rattle.lf_rtree.proofs.Lists.{rest_from}
+use Rattle.lf_units.proofs.Lists.{rest_from}
 use Rattle.lf_segments.proofs.RunLemmas.{run_at, below_point, from_point, up_to_point, beyond_point}
 use Rattle.lf_segments.proofs.segment_runs.run_of_team.Goals as goal
 

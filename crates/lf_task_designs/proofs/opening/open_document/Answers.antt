@@ -1,7 +1,7 @@
 use Rattle.std.proofs.Common.{inl, refl}
 use Rattle.lf_def.specs.Contents.{contents}
 use Rattle.lf_task_faults.specs.declared.faults.TextKind.TheVariants.{Def}
-use Rattle.lf_frame_checks.specs.Conflicts.{no_fence}
+use Rattle.lf_frame.specs.Conflicts.{no_fence}
 use Rattle.lf_task_designs.specs.Designs.{IsLoadRefusal}
 use Rattle.lf_task_designs.proofs.DesignSteps.{reported_as}
 use Rattle.lf_task_designs.proofs.opening.open_document.Goals as goal

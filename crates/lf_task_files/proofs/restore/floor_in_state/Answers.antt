@@ -1,7 +1,7 @@
 use Rattle.std.proofs.Common.{inr}
 use Rattle.std.proofs.lemmas.Result.{IfErr-weaker, IfOk-weaker}
 use Rattle.lf_floor_model.specs.Designs.{initial_floor}
-use Rattle.lf_state_restore.proofs.KeepingDesign.{of_one_design}
+use Rattle.lf_floor.proofs.KeepingDesign.{of_one_design}
 use Rattle.lf_task_files.proofs.Beginning.{fault_of_design, state_of_design}
 use Rattle.lf_task_files.proofs.Looking.{teams_many}
 use Rattle.lf_task_files.proofs.restore.floor_in_state.Goals as goal

@@ -1,5 +1,5 @@
 use Rattle.std.proofs.Common.{map, subst, sym}
-use Rattle.lf_repair_report.specs.Densities.{IsDensityOn}
+use Rattle.lf_task_reports.specs.Densities.{IsDensityOn}
 use Rattle.lf_task_run.proofs.Running.{as_many}
 use Rattle.lf_task_improve.proofs.Results.{not_longer, wire_length_on}
 use Rattle.lf_task_improve.proofs.improving.improve_selected.Goals as goal

@@ -1,4 +1,4 @@
-use Rattle.lf_wire_binding.proofs.CellLemmas.{is_there}
+use Rattle.lf_wire_nets.proofs.CellLemmas.{is_there}
 use Rattle.lf_task_improve.proofs.Openings.{team_few, team_there}
 use Rattle.lf_task_improve.proofs.opening.team_of.Goals as goal
 

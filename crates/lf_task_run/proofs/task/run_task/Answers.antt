@@ -3,7 +3,7 @@ use Rattle.std.proofs.lemmas.Result.{err_from_is_err_and}
 use Rattle.std.specs.Prelude.{option_copied}
 use Rattle.lf_task_designs.specs.declared.opening.SourceText.{SourceText}
 use Rattle.lf_task_designs.specs.Designs.{AreKept}
-use Rattle.lf_io_files.specs.Shelf.{Put}
+use Rattle.lf_io.specs.Shelf.{Put}
 use Rattle.lf_task_files.specs.Exits.{CanBePut}
 use Rattle.lf_task_files.proofs.KeptTexts.{can_be_put}
 use Rattle.lf_task_files.proofs.WorkSteps.{blames_as, early_blames, export_blames}

@@ -1,5 +1,5 @@
 use Rattle.std.proofs.Common.{inl, refl}
-use Rattle.lf_wire_pins.specs.LibraryPins.{RefusesPins, pins_after}
+use Rattle.lf_wire_nets.specs.LibraryPins.{RefusesPins, pins_after}
 use Rattle.lf_task_faults.specs.declared.faults.TextKind.TheVariants.{Lef}
 use Rattle.lf_task_designs.proofs.DesignSteps.{reported_for}
 use Rattle.lf_task_wires.proofs.second_reading.add_pins.Goals as goal

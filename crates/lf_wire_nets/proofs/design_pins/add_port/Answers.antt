@@ -1,6 +1,6 @@
 use Rattle.std.proofs.lemmas.List.Elements.{All-push}
 use Rattle.lf_def.specs.Ranges.{IsLocation}
-use Rattle.lf_wire_nets.specs.Ranges.{IsDesignPort}
+use Rattle.lf_wire_nets.specs.NetRanges.{IsDesignPort}
 use Rattle.lf_wire_nets.proofs.design_pins.add_port.Goals as goal
 
 pub returns-in_ok-push-clause-range : goal.returns-in_ok-push-clause-range

@@ -2,7 +2,7 @@ use Rattle.std.proofs.Common.{◌≤◌, length}
 use Rattle.lf_lex.specs.Reading.{block}
 use Rattle.lf_lex.proofs.Turns.{Going}
 use Rattle.lf_wire_nets.specs.Nets.{net_statement}
-use Rattle.lf_wire_nets.specs.Ranges.{AreNetParts}
+use Rattle.lf_wire_nets.specs.NetRanges.{AreNetParts}
 use Rattle.lf_wire_nets.proofs.nets.net_parts.Given as goal
 
 abbrev pub invariant-loop : goal.invariant-loop

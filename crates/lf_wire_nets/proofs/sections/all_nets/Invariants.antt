@@ -2,7 +2,7 @@ use Rattle.std.proofs.Common.{◌≤◌, length}
 use Rattle.lf_lex.specs.Reading.{block}
 use Rattle.lf_lex.proofs.Turns.{Going}
 use Rattle.lf_wire_nets.specs.NetTexts.{net_or_end}
-use Rattle.lf_wire_nets.specs.Ranges.{AreDesignNets}
+use Rattle.lf_wire_nets.specs.NetRanges.{AreDesignNets}
 use Rattle.lf_wire_nets.proofs.sections.all_nets.Given as goal
 
 abbrev pub invariant-loop : goal.invariant-loop

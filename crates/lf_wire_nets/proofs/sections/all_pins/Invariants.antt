@@ -4,7 +4,7 @@ use Rattle.lf_lex.specs.Reading.{block}
 use Rattle.lf_lex.proofs.Turns.{Going}
 use Rattle.lf_def.specs.Entries.{entry_or_end}
 use Rattle.lf_wire_nets.specs.DesignPins.{design_pin}
-use Rattle.lf_wire_nets.specs.Ranges.{IsDesignPin}
+use Rattle.lf_wire_nets.specs.NetRanges.{IsDesignPin}
 use Rattle.lf_wire_nets.proofs.sections.all_pins.Given as goal
 
 abbrev pub invariant-loop : goal.invariant-loop

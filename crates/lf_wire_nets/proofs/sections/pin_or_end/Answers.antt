@@ -1,5 +1,5 @@
 use Rattle.std.proofs.lemmas.List.Elements.{All-push}
-use Rattle.lf_wire_nets.specs.Ranges.{IsDesignPin}
+use Rattle.lf_wire_nets.specs.NetRanges.{IsDesignPin}
 use Rattle.lf_wire_nets.proofs.sections.pin_or_end.Goals as goal
 
 pub returns-then-is_token-clause-range : goal.returns-then-is_token-clause-range

@@ -1,7 +1,7 @@
 use Rattle.std.proofs.Common.{[], ◌∷◌, ◌++◌, length, ◌≤◌, arith}
 use Rattle.std.proofs.lemmas.List.Elements.{All-push}
 use Rattle.std.proofs.lemmas.List.{length-append}
-use Rattle.lf_wire_nets.specs.Ranges.{IsDesignNet}
+use Rattle.lf_wire_nets.specs.NetRanges.{IsDesignNet}
 use Rattle.lf_wire_nets.proofs.sections.with_net.Goals as goal
 
 pub returns-in_err-push-clause-range : goal.returns-in_err-push-clause-range

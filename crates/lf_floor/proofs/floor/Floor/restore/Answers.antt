@@ -4,7 +4,7 @@ use Rattle.lf_rules.specs.FullyLegal.{IsFullyLegal}
 use Rattle.lf_floor_model.specs.Committed.{IsCommittedLegal}
 use Rattle.lf_floor_model.specs.States.{FloorState}
 use Rattle.lf_state_text.specs.Reading.{saved_state_of}
-use Rattle.lf_state_restore.specs.Saved.{ShareDesign, design_names, saved_design}
+use Rattle.lf_floor.specs.Saved.{ShareDesign, design_names, saved_design}
 use Rattle.lf_floor_verbs.specs.Tables.{floor_in}
 use Rattle.lf_floor.proofs.Saving.{back_again, legal_reported, only_memory}
 use Rattle.lf_floor.proofs.floor.Floor.restore.Goals as goal

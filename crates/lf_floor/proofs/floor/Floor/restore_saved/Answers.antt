@@ -1,7 +1,7 @@
 use Rattle.std.proofs.Common.{subst, sym, ◌∙◌, ap}
 use Rattle.lf_floor_model.specs.States.{FloorState}
 use Rattle.lf_state_text.specs.Saved.{team_views}
-use Rattle.lf_state_restore.specs.Saved.{MatchDesign, ShareDesign, restored_floor}
+use Rattle.lf_floor.specs.Saved.{MatchDesign, ShareDesign, restored_floor}
 use Rattle.lf_floor_verbs.specs.Tables.{floor_in}
 use Rattle.lf_floor.proofs.Saving.{of_design}
 use Rattle.lf_floor.proofs.floor.Floor.restore_saved.Goals as goal

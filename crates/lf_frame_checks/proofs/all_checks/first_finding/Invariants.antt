@@ -1,6 +1,0 @@
-use Rattle.lf_frame_checks.specs.Findings.{inputs}
-use Rattle.lf_frame_checks.proofs.Numbers.{NoneBelow}
-use Rattle.lf_frame_checks.proofs.all_checks.first_finding.Given as goal
-
-abbrev pub invariant-loop-number : goal.invariant-loop-number
-invariant-loop-number l = NoneBelow (inputs l.library l.document l.limits) l.number

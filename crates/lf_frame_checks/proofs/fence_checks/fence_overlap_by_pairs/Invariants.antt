@@ -1,6 +1,0 @@
-use Rattle.lf_frame_checks.specs.Refusals.{OverlapsEarlierFence}
-use Rattle.lf_frame_claims.proofs.Firsts.{NoneBelow}
-use Rattle.lf_frame_checks.proofs.fence_checks.fence_overlap_by_pairs.Given as goal
-
-abbrev pub invariant-loop-number : goal.invariant-loop-number
-invariant-loop-number l = NoneBelow OverlapsEarlierFence l.regions l.number

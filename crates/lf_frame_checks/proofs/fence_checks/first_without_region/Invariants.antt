@@ -1,6 +1,0 @@
-use Rattle.lf_frame_checks.specs.Refusals.{HasNoRegion}
-use Rattle.lf_frame_claims.proofs.Firsts.{NoneBelow}
-use Rattle.lf_frame_checks.proofs.fence_checks.first_without_region.Given as goal
-
-abbrev pub invariant-loop-number : goal.invariant-loop-number
-invariant-loop-number l = NoneBelow (HasNoRegion l.regions) l.groups l.number

@@ -1,6 +1,0 @@
-use Rattle.std.proofs.Common.{take}
-use Rattle.lf_frame_checks.specs.Tables.{HoldSameNames, region_names}
-use Rattle.lf_frame_checks.proofs.fence_checks.region_names.Given as goal
-
-abbrev pub invariant-loop-region : goal.invariant-loop-region
-invariant-loop-region l = HoldSameNames l.names (region_names (take l.region-index l.regions))

@@ -1,6 +1,0 @@
-use Rattle.lf_frame_checks.specs.Refusals.{IsVertical}
-use Rattle.lf_frame_claims.proofs.Firsts.{NoneBelow}
-use Rattle.lf_frame_checks.proofs.row_checks.first_vertical.Given as goal
-
-abbrev pub invariant-loop-number : goal.invariant-loop-number
-invariant-loop-number l = NoneBelow (IsVertical l.core) l.rows l.number

@@ -1,6 +1,0 @@
-use Rattle.lf_frame_checks.specs.Refusals.{HasNoSite}
-use Rattle.lf_frame_claims.proofs.Firsts.{NoneBelow}
-use Rattle.lf_frame_checks.proofs.row_checks.first_without_site.Given as goal
-
-abbrev pub invariant-loop-number : goal.invariant-loop-number
-invariant-loop-number l = NoneBelow (HasNoSite l.library) l.rows l.number

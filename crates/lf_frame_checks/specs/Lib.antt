@@ -1,8 +1,0 @@
-pub mod Loading
-pub mod MacroNumbers
-pub mod MacroTables
-pub mod Refusals
-pub mod Findings
-pub mod Sweep
-pub mod Tables
-pub mod Conflicts

@@ -1,6 +1,0 @@
-use Rattle.std.proofs.Common.{take}
-use Rattle.lf_frame_claims.specs.Claims.{CountsFences, ClaimsBy}
-use Rattle.lf_frame_claims.proofs.star_patterns.claim_by_matching.Given as goal
-
-abbrev pub invariant-loop-bound : goal.invariant-loop-bound
-invariant-loop-bound l = CountsFences (ClaimsBy (take l.bound-index l.bounds) l.name) l.claim

@@ -1,8 +1,0 @@
-use Rattle.lf_frame_index.proofs.LawLemmas.{segments_hold, segments_suffice}
-use Rattle.lf_frame_index.proofs.laws.lies_in_segments.Goals as goal
-
-pub returns : goal.returns
-returns c f obstacles segments team box cut is_in_place wide = (
-  λ both. segments_hold f obstacles segments team box cut is_in_place wide both.0 both.1,
-  λ lies. segments_suffice f obstacles segments team box cut is_in_place wide lies,
-)

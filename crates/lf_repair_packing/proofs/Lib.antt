@@ -1,4 +1,0 @@
-pub mod Grown
-pub mod Looking
-pub mod Packed
-pub mod Shapes

@@ -1,9 +1,0 @@
-use Rattle.std.proofs.Common.{◌≡◌, ◌≤◌, ◌*◌, take}
-use Rattle.lf_repair_packing.specs.Packing.{total_site_displacement}
-use Rattle.lf_repair_packing.proofs.cells.total_displacement.Given as goal
-
-abbrev pub invariant-loop-cell : goal.invariant-loop-cell
-invariant-loop-cell l = record {
-  sum : l.way ≡ total_site_displacement (take l.cell-index l.cells);
-  far : l.way ≤ l.cell-index * 4294967296;
-}

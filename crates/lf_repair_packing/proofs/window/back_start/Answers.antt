@@ -1,6 +1,0 @@
-use Rattle.std.proofs.Common.{arith}
-use Rattle.lf_repair_packing.proofs.Packed.{back_start_is}
-use Rattle.lf_repair_packing.proofs.window.back_start.Goals as goal
-
-pub returns : goal.returns
-returns c = back_start_is c.args.room c.args.last c.args.cells.now _ (omega arith) c.requires.packed

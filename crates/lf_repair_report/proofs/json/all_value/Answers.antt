@@ -1,5 +1,0 @@
-use Rattle.lf_repair_report.specs.RepairReports.{all_members}
-use Rattle.lf_repair_report.proofs.json.all_value.Goals as goal
-
-pub returns : goal.returns
-returns c = c.with_density.ensures (all_members c.args.sums.now c.args.legal) c.in_ok-line.ensures

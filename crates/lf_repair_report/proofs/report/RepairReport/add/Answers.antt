@@ -1,6 +1,0 @@
-use Rattle.lf_repair_report.proofs.NoFloat.{team_has_none}
-use Rattle.lf_repair_report.proofs.report.RepairReport.add.Goals as goal
-
-pub push_line-requires : goal.push_line-requires
-push_line-requires g c =
-    team_has_none c.args.floor.now c.args.team.now _ c.args.repaired.now c.least_at-least.result _ c.in_ok-line.ensures

@@ -1,2 +1,0 @@
-pub mod Densities
-pub mod RepairReports

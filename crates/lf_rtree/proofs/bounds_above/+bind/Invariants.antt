@@ -1,5 +1,0 @@
-use Rattle.std.proofs.Common.{length}
-use Rattle.lf_rtree.proofs.bounds_above.+bind.Given as goal
-
-abbrev pub decreases-bind : goal.decreases-bind
-decreases-bind l = length l.bounds.now

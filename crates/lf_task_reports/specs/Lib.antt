@@ -1,0 +1,4 @@
+pub mod Densities
+pub mod RepairReports
+pub mod ImproveReports
+pub mod WireReports

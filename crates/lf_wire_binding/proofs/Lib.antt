@@ -1,4 +1,0 @@
-pub mod CellLemmas
-pub mod FirstLemmas
-pub mod NetLemmas
-pub mod RangeLemmas

@@ -1,0 +1,20 @@
+use Rattle.std.proofs.Common.{refl, arith}
+use Rattle.lf_wire_nets.specs.Names.{is_macro_named}
+use Rattle.lf_wire_nets.proofs.FirstLemmas.{all_so_far, entries_from, none_so_far, one_so_far}
+use Rattle.lf_wire_nets.proofs.names.macro_names.Goals as goal
+
+pub loop-at-init : goal.loop-at-init
+loop-at-init c = none_so_far is_macro_named c.args.macros.now c.new-names.result c.new-names.ensures.whole c.new-names.ensures.nothing
+
+pub add-requires : goal.add-requires
+add-requires c = c.loop-at.invariant.whole
+
+pub loop-at-preserved : goal.loop-at-preserved
+loop-at-preserved c =
+    let macros = c.args.macros.now in
+    let found = c.index-macros-at.result in
+    one_so_far is_macro_named macros c.loop-at.at found found.name c.loop-at.names c.add.new.self
+    (entries_from macros c.loop-at.at found c.loop-at-test.true c.index-macros-at.is) (λ name. refl) c.loop-at.invariant (rw c.name.ensures at (c.in_ok-add.ensures {u = tt}))
+
+pub returns : goal.returns
+returns c = all_so_far is_macro_named c.args.macros.now c.loop-at.at c.loop-at.names (omega (arith, c.loop-at-test.false)) c.loop-at.invariant
