@@ -157,7 +157,7 @@ fn perform(rt: &HostRuntime, task: &Task<'_>) -> TaskExit {
         closed: &closed,
         is_silent: only_writes(task),
     };
-    let mut around = Environment::new(
+    let mut environment = Environment::new(
         FsInputFiles::new(rt),
         FsOutputFiles::new(rt),
         NetListener::new(rt),
@@ -166,7 +166,7 @@ fn perform(rt: &HostRuntime, task: &Task<'_>) -> TaskExit {
         ToWrite::new(&mut faults),
         TimedProgress::new(rt.alloc(), rt, pause(rt), rt.stderr()),
     );
-    perform_over(rt.alloc(), &mut around, task)
+    perform_over(rt.alloc(), &mut environment, task)
 }
 
 /// Does the task that the words name, and returns the exit status.

@@ -112,7 +112,7 @@ fn exported_by<R: Read, W: Write, F: Write>(
     let exports = KeptExport {
         text: Vec::new(texts.alloc),
     };
-    let mut around = Environment::new(
+    let mut environment = Environment::new(
         *texts,
         exports,
         NoServices { failed: false },
@@ -121,8 +121,8 @@ fn exported_by<R: Read, W: Write, F: Write>(
         ToWrite::new(faults),
         NoProgress,
     );
-    perform_over(texts.alloc, &mut around, task);
-    around.exports.text
+    perform_over(texts.alloc, &mut environment, task);
+    environment.exports.text
 }
 
 /// Does the task over these texts and lines. The lines of a fault follow what is written.

@@ -181,43 +181,48 @@ fn improvement_of(within: Option<u32>, options: ImproveOptions) -> Improve
 /// Does the task on a design within these limits, and returns its exit status.
 fn outcome_within<'a, D: Devices>(
     alloc: Global,
-    around: &mut Environment<D>,
+    environment: &mut Environment<D>,
     task: &'a Task<'_>,
     limits: Limits,
 ) -> Result<u8, Fault<'a>>
     requires ready { IsReady D.Reader.has_failed D.Reader.reads D.Writer.has_failed
-        around.old.reader around.old.writer }
+        environment.old.reader environment.old.writer }
     ensures ok { let io = ⟦<Environment<D> as Shows>⟧.io in
-        IfOk result (IsOutcomeWithin limits (D.Texts.gives around.old.texts) (as_job task.now)
-        (streams_of (io around.old) (io around.new))) }
+        IfOk result (IsOutcomeWithin limits (D.Texts.gives environment.old.texts) (as_job task.now)
+        (streams_of (io environment.old) (io environment.new))) }
     ensures err { let io = ⟦<Environment<D> as Shows>⟧.io in
-        IfErr result (λ fault. IsJobFaultWithin limits (D.Texts.gives around.old.texts) (as_job task.now) fault
-        (streams_of (io around.old) (io around.new))
+        IfErr result (λ fault. IsJobFaultWithin limits (D.Texts.gives environment.old.texts) (as_job task.now) fault
+        (streams_of (io environment.old) (io environment.new))
         × BlamesEnvironment
-        (reads_of (as_job task.now)) (around.new.writer ≡ around.old.writer)
-        (io around.old) (io around.new) fault) }
-    ensures unread { ReadsNoInput (as_job task.now) → around.new.reader ≡ around.old.reader }
+        (reads_of (as_job task.now)) (environment.new.writer ≡ environment.old.writer)
+        (io environment.old) (io environment.new) fault) }
+    ensures unread { ReadsNoInput (as_job task.now) → environment.new.reader ≡ environment.old.reader }
     ensures unput { let io = ⟦<Environment<D> as Shows>⟧.io in
         NamesNoState (as_job task.now)
-        → OnErr result ((io around.new).puts ≡ (io around.old).puts) }
-    ensures unasked { NamesNoFile (as_job task.now) → around.new.exports ≡ around.old.exports }
+        → OnErr result ((io environment.new).puts ≡ (io environment.old).puts) }
+    ensures unasked { NamesNoFile (as_job task.now) → environment.new.exports ≡ environment.old.exports }
     ensures offered { let io = ⟦<Environment<D> as Shows>⟧.io in
         OnOk result
-        (IsOfferOf (as_job task.now) (io around.old).offers (io around.new).offers) }
+        (IsOfferOf (as_job task.now) (io environment.old).offers (io environment.new).offers) }
     ensures unoffered { let io = ⟦<Environment<D> as Shows>⟧.io in
-        ((io around.new).offers ≡ (io around.old).offers)
-        ⊎ IsOfferOf (as_job task.now) (io around.old).offers (io around.new).offers }
-    ensures silent { RepairsNothing (as_job task.now) → around.new.progress ≡ around.old.progress }
-    ensures texts { around.new.texts ≡ around.old.texts }
-    ensures unreported { around.new.faults ≡ around.old.faults }
-    ensures keeps { let io = ⟦<Environment<D> as Shows>⟧.io in KeepsStreams (io around.old) (io around.new) }
+        ((io environment.new).offers ≡ (io environment.old).offers)
+        ⊎ IsOfferOf (as_job task.now) (io environment.old).offers (io environment.new).offers }
+    ensures silent { RepairsNothing (as_job task.now) → environment.new.progress ≡ environment.old.progress }
+    ensures texts { environment.new.texts ≡ environment.old.texts }
+    ensures unreported { environment.new.faults ≡ environment.old.faults }
+    ensures keeps { let io = ⟦<Environment<D> as Shows>⟧.io in KeepsStreams (io environment.old) (io environment.new) }
 {
     let inputs = input_of(task, limits);
     match task {
-        Task::Demo => demo(alloc, limits, &mut around.reader, &mut around.writer),
+        Task::Demo => demo(
+            alloc,
+            limits,
+            &mut environment.reader,
+            &mut environment.writer,
+        ),
         Task::Replay { lines, .. } => {
             let lines = LineSource::Reader { max_lines: *lines };
-            serve_files(alloc, around, inputs, lines, outputs_of(task))
+            serve_files(alloc, environment, inputs, lines, outputs_of(task))
         }
         Task::Serve {
             port,
@@ -228,13 +233,29 @@ fn outcome_within<'a, D: Devices>(
                 port: *port,
                 connections: *connections,
             };
-            serve_files(alloc, around, inputs, lines, outputs_of(task))
+            serve_files(alloc, environment, inputs, lines, outputs_of(task))
         }
         Task::Check { committed, .. } => {
-            check(alloc, &around.texts, inputs, *committed, &mut around.writer)
+            check(
+                alloc,
+                &environment.texts,
+                inputs,
+                *committed,
+                &mut environment.writer,
+            )
         }
-        Task::Describe { .. } => describe_files(alloc, &around.texts, inputs, &mut around.writer),
-        Task::Wirelength { .. } => wirelength(alloc, &around.texts, inputs, &mut around.writer),
+        Task::Describe { .. } => describe_files(
+            alloc,
+            &environment.texts,
+            inputs,
+            &mut environment.writer,
+        ),
+        Task::Wirelength { .. } => wirelength(
+            alloc,
+            &environment.texts,
+            inputs,
+            &mut environment.writer,
+        ),
         Task::Repair {
             teams,
             options,
@@ -243,10 +264,18 @@ fn outcome_within<'a, D: Devices>(
         } => {
             let job = job_of(inputs, teams.as_slice(), *files);
             let work = repair_of(*options);
-            let exports = &mut around.exports;
-            let writer = &mut around.writer;
-            let progress = &mut around.progress;
-            run_task(alloc, &around.texts, exports, writer, progress, &job, &work)
+            let exports = &mut environment.exports;
+            let writer = &mut environment.writer;
+            let progress = &mut environment.progress;
+            run_task(
+                alloc,
+                &environment.texts,
+                exports,
+                writer,
+                progress,
+                &job,
+                &work,
+            )
         }
         Task::Improve {
             teams,
@@ -257,10 +286,18 @@ fn outcome_within<'a, D: Devices>(
         } => {
             let job = job_of(inputs, teams.as_slice(), *files);
             let work = improvement_of(*within, *options);
-            let exports = &mut around.exports;
-            let writer = &mut around.writer;
-            let progress = &mut around.progress;
-            run_task(alloc, &around.texts, exports, writer, progress, &job, &work)
+            let exports = &mut environment.exports;
+            let writer = &mut environment.writer;
+            let progress = &mut environment.progress;
+            run_task(
+                alloc,
+                &environment.texts,
+                exports,
+                writer,
+                progress,
+                &job,
+                &work,
+            )
         }
     }
 }
@@ -284,38 +321,38 @@ fn slots_of(task: &Task<'_>) -> Slots
 /// Does the task, and returns its exit status.
 fn outcome<'a, D: Devices>(
     alloc: Global,
-    around: &mut Environment<D>,
+    environment: &mut Environment<D>,
     task: &'a Task<'_>,
 ) -> Result<u8, Fault<'a>>
     requires ready { IsReady D.Reader.has_failed D.Reader.reads D.Writer.has_failed
-        around.old.reader around.old.writer }
+        environment.old.reader environment.old.writer }
     ensures ok { let io = ⟦<Environment<D> as Shows>⟧.io in
-        IfOk result (IsJobOutcome (D.Texts.gives around.old.texts) (as_job task.now)
-        (streams_of (io around.old) (io around.new))) }
+        IfOk result (IsJobOutcome (D.Texts.gives environment.old.texts) (as_job task.now)
+        (streams_of (io environment.old) (io environment.new))) }
     ensures err { let io = ⟦<Environment<D> as Shows>⟧.io in
-        IfErr result (λ fault. IsJobFault (D.Texts.gives around.old.texts) (as_job task.now) fault
-        (streams_of (io around.old) (io around.new))
+        IfErr result (λ fault. IsJobFault (D.Texts.gives environment.old.texts) (as_job task.now) fault
+        (streams_of (io environment.old) (io environment.new))
         × BlamesEnvironment
-        (reads_of (as_job task.now)) (around.new.writer ≡ around.old.writer)
-        (io around.old) (io around.new) fault) }
-    ensures unread { ReadsNoInput (as_job task.now) → around.new.reader ≡ around.old.reader }
+        (reads_of (as_job task.now)) (environment.new.writer ≡ environment.old.writer)
+        (io environment.old) (io environment.new) fault) }
+    ensures unread { ReadsNoInput (as_job task.now) → environment.new.reader ≡ environment.old.reader }
     ensures unput { let io = ⟦<Environment<D> as Shows>⟧.io in
         NamesNoState (as_job task.now)
-        → OnErr result ((io around.new).puts ≡ (io around.old).puts) }
-    ensures unasked { NamesNoFile (as_job task.now) → around.new.exports ≡ around.old.exports }
+        → OnErr result ((io environment.new).puts ≡ (io environment.old).puts) }
+    ensures unasked { NamesNoFile (as_job task.now) → environment.new.exports ≡ environment.old.exports }
     ensures offered { let io = ⟦<Environment<D> as Shows>⟧.io in
         OnOk result
-        (IsOfferOf (as_job task.now) (io around.old).offers (io around.new).offers) }
+        (IsOfferOf (as_job task.now) (io environment.old).offers (io environment.new).offers) }
     ensures unoffered { let io = ⟦<Environment<D> as Shows>⟧.io in
-        ((io around.new).offers ≡ (io around.old).offers)
-        ⊎ IsOfferOf (as_job task.now) (io around.old).offers (io around.new).offers }
-    ensures silent { RepairsNothing (as_job task.now) → around.new.progress ≡ around.old.progress }
-    ensures texts { around.new.texts ≡ around.old.texts }
-    ensures unreported { around.new.faults ≡ around.old.faults }
-    ensures keeps { let io = ⟦<Environment<D> as Shows>⟧.io in KeepsStreams (io around.old) (io around.new) }
+        ((io environment.new).offers ≡ (io environment.old).offers)
+        ⊎ IsOfferOf (as_job task.now) (io environment.old).offers (io environment.new).offers }
+    ensures silent { RepairsNothing (as_job task.now) → environment.new.progress ≡ environment.old.progress }
+    ensures texts { environment.new.texts ≡ environment.old.texts }
+    ensures unreported { environment.new.faults ≡ environment.old.faults }
+    ensures keeps { let io = ⟦<Environment<D> as Shows>⟧.io in KeepsStreams (io environment.old) (io environment.new) }
 {
     let limits = limits_for(slots_of(task));
-    outcome_within(alloc, around, task, limits)
+    outcome_within(alloc, environment, task, limits)
 }
 
 /// Does the task and returns how it ended. The exit status is one of:
@@ -346,47 +383,47 @@ fn outcome<'a, D: Devices>(
 /// other text is ever written there. Only the requested port of this machine is served.
 pub fn perform_over<D: Devices>(
     alloc: Global,
-    around: &mut Environment<D>,
+    environment: &mut Environment<D>,
     task: &Task<'_>,
 ) -> TaskExit
-    requires readable { D.Reader.has_failed around.old.reader ≡ false }
-    requires fresh { D.Reader.reads around.old.reader ≡ 0 }
-    requires writable { D.Writer.has_failed around.old.writer ≡ false }
+    requires readable { D.Reader.has_failed environment.old.reader ≡ false }
+    requires fresh { D.Reader.reads environment.old.reader ≡ 0 }
+    requires writable { D.Writer.has_failed environment.old.writer ≡ false }
     ensures status { IsDone result.status ⊎ IsFailure result.status }
     ensures outcome { let io = ⟦<Environment<D> as Shows>⟧.io in
-        IsDone result.status → IsJobOutcome (D.Texts.gives around.old.texts) (as_job task.now)
-        (streams_of (io around.old) (io around.new)) result.status }
-    ensures done { IsDone result.status → around.new.faults ≡ around.old.faults }
+        IsDone result.status → IsJobOutcome (D.Texts.gives environment.old.texts) (as_job task.now)
+        (streams_of (io environment.old) (io environment.new)) result.status }
+    ensures done { IsDone result.status → environment.new.faults ≡ environment.old.faults }
     ensures reported { IsDone result.status → IsTrue result.is_printed }
     ensures fault { let io = ⟦<Environment<D> as Shows>⟧.io in
         IsFailure result.status
-        → EndsTask (λ fault. IsJobFault (D.Texts.gives around.old.texts) (as_job task.now) fault
-        (streams_of (io around.old) (io around.new))
+        → EndsTask (λ fault. IsJobFault (D.Texts.gives environment.old.texts) (as_job task.now) fault
+        (streams_of (io environment.old) (io environment.new))
         × BlamesEnvironment
-        (reads_of (as_job task.now)) (around.new.writer ≡ around.old.writer)
-        (io around.old) (io around.new) fault)
-        (D.Faults.contents around.old.faults) (D.Faults.contents around.new.faults) (D.Faults.has_failed around.new.faults) result }
+        (reads_of (as_job task.now)) (environment.new.writer ≡ environment.old.writer)
+        (io environment.old) (io environment.new) fault)
+        (D.Faults.contents environment.old.faults) (D.Faults.contents environment.new.faults) (D.Faults.has_failed environment.new.faults) result }
     ensures checked { result.status ≡ 4 → ReadsNone task.now }
-    ensures unread { ReadsNoInput (as_job task.now) → around.new.reader ≡ around.old.reader }
+    ensures unread { ReadsNoInput (as_job task.now) → environment.new.reader ≡ environment.old.reader }
     ensures unput { let io = ⟦<Environment<D> as Shows>⟧.io in
         NamesNoState (as_job task.now) → IsFailure result.status
-        → (io around.new).puts ≡ (io around.old).puts }
-    ensures unasked { NamesNoFile (as_job task.now) → around.new.exports ≡ around.old.exports }
+        → (io environment.new).puts ≡ (io environment.old).puts }
+    ensures unasked { NamesNoFile (as_job task.now) → environment.new.exports ≡ environment.old.exports }
     ensures offered { let io = ⟦<Environment<D> as Shows>⟧.io in
         IsDone result.status
-        → IsOfferOf (as_job task.now) (io around.old).offers (io around.new).offers }
+        → IsOfferOf (as_job task.now) (io environment.old).offers (io environment.new).offers }
     ensures unoffered { let io = ⟦<Environment<D> as Shows>⟧.io in
-        ((io around.new).offers ≡ (io around.old).offers)
-        ⊎ IsOfferOf (as_job task.now) (io around.old).offers (io around.new).offers }
-    ensures silent { RepairsNothing (as_job task.now) → around.new.progress ≡ around.old.progress }
-    ensures texts { around.new.texts ≡ around.old.texts }
-    ensures reader_held { D.Reader.holds around.new.reader ≡ D.Reader.holds around.old.reader }
-    ensures writer_held { D.Writer.holds around.new.writer ≡ D.Writer.holds around.old.writer }
-    ensures faults_held { D.Faults.holds around.new.faults ≡ D.Faults.holds around.old.faults }
+        ((io environment.new).offers ≡ (io environment.old).offers)
+        ⊎ IsOfferOf (as_job task.now) (io environment.old).offers (io environment.new).offers }
+    ensures silent { RepairsNothing (as_job task.now) → environment.new.progress ≡ environment.old.progress }
+    ensures texts { environment.new.texts ≡ environment.old.texts }
+    ensures reader_held { D.Reader.holds environment.new.reader ≡ D.Reader.holds environment.old.reader }
+    ensures writer_held { D.Writer.holds environment.new.writer ≡ D.Writer.holds environment.old.writer }
+    ensures faults_held { D.Faults.holds environment.new.faults ≡ D.Faults.holds environment.old.faults }
 {
-    match outcome(alloc, around, task) {
+    match outcome(alloc, environment, task) {
         Ok(status) => exit_with(status),
-        Err(fault) => report_fault(&mut around.faults, &fault),
+        Err(fault) => report_fault(&mut environment.faults, &fault),
     }
 }
 
@@ -428,7 +465,7 @@ fn perform_with<T: Files + Net + AllocGlobal, R: Source + Drop, W: Sink + Drop, 
     ensures writer_held { W.holds result.writer ≡ W.holds writer }
     ensures faults_held { F.holds result.faults ≡ F.holds faults }
 {
-    let mut around = Environment::new(
+    let mut environment = Environment::new(
         FsInputFiles::new(rt),
         FsOutputFiles::new(rt),
         NetListener::new(rt),
@@ -437,14 +474,14 @@ fn perform_with<T: Files + Net + AllocGlobal, R: Source + Drop, W: Sink + Drop, 
         faults,
         NoProgress,
     );
-    let exit = perform_over(rt.alloc(), &mut around, task);
+    let exit = perform_over(rt.alloc(), &mut environment, task);
     let Environment {
         services,
         reader,
         writer,
         faults,
         ..
-    } = around;
+    } = environment;
     drop(services);
     Performed {
         exit,

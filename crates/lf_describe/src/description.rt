@@ -65,20 +65,20 @@ fn line_failure(fault: LineFault) -> DescribeFailure
 /// Writes the description. Returns whether no cell is unplaced and no cell breaks a rule.
 fn write_description<W: Sink>(
     alloc: Global,
-    reported: &DescribedDesign<'_>,
+    design: &DescribedDesign<'_>,
     writer: &mut W,
 ) -> Result<bool, DescribeFailure>
-    ensures text { OnOk result (Appends (W.contents writer.old) (W.contents writer.new) (parts_text reported.now)) }
-    ensures clean { (report : Report) → Counts reported.now report
+    ensures text { OnOk result (Appends (W.contents writer.old) (W.contents writer.new) (parts_text design.now)) }
+    ensures clean { (report : Report) → Counts design.now report
         → IfOk result (λ clean. IsTrue clean ↔ IsClean report) }
     ensures cut { OnErr result
-        (AppendsFront (W.contents writer.old) (W.contents writer.new) (parts_text reported.now)) }
+        (AppendsFront (W.contents writer.old) (W.contents writer.new) (parts_text design.now)) }
     ensures late { IfErr result (λ fault. fault ≡ DescribeFailure.OutOfMemory → ⊥) }
     ensures failed { W.has_failed writer.new ≡ (is_output result || W.has_failed writer.old) }
     ensures held { W.holds writer.new ≡ W.holds writer.old }
 {
-    match put_parts(alloc, reported, writer) {
-        Ok(()) => Ok(is_clean(&counts_in(reported))),
+    match put_parts(alloc, design, writer) {
+        Ok(()) => Ok(is_clean(&counts_in(design))),
         Err(fault) => Err(line_failure(fault)),
     }
 }
@@ -113,14 +113,14 @@ fn describe_cells<W: Sink>(
     let Ok(density) = density_in(alloc, frame, &index, cells) else {
         return Err(DescribeFailure::OutOfMemory);
     };
-    let reported = DescribedDesign {
+    let design = DescribedDesign {
         frame,
         names,
         cells,
         verdicts: verdicts.as_slice(),
         density,
     };
-    write_description(alloc, &reported, writer)
+    write_description(alloc, &design, writer)
 }
 
 /// Writes the description of a design as JSON Lines, one object on each line, with each cell at its

@@ -50,12 +50,12 @@ const PARTS: [Part; 8] = [
 ];
 
 /// Counts the cells, those that break a rule, and the unplaced ones.
-pub(crate) fn counts_in(reported: &DescribedDesign<'_>) -> Counts
-    ensures cells { result.cells ≡ length (described_cells reported.now) }
-    ensures illegal { result.illegal ≡ count_by is_some reported.now.verdicts.now }
-    ensures unplaced { result.unplaced ≡ count_by (λ c. is_none c.place) (described_cells reported.now) }
+pub(crate) fn counts_in(design: &DescribedDesign<'_>) -> Counts
+    ensures cells { result.cells ≡ length (described_cells design.now) }
+    ensures illegal { result.illegal ≡ count_by is_some design.now.verdicts.now }
+    ensures unplaced { result.unplaced ≡ count_by (λ c. is_none c.place) (described_cells design.now) }
 {
-    counts_of(reported.cells, reported.verdicts)
+    counts_of(design.cells, design.verdicts)
 }
 
 /// Makes the line of the row of this number. `Ok(None)` if there is no such row.
@@ -123,19 +123,19 @@ fn soft_line(alloc: Global, frame: &Frame, number: usize) -> Result<Option<Value
 }
 
 /// Returns the cell of this number. `None` if there is no such cell.
-fn cell_at<'a>(reported: &DescribedDesign<'a>, number: usize) -> Option<&'a Listed<&'a [u8]>>
+fn cell_at<'a>(design: &DescribedDesign<'a>, number: usize) -> Option<&'a Listed<&'a [u8]>>
     ensures there { option_map (λ cell. with_byte_name cell.now) result
-        ≡ slice_get (described_cells reported.now) number }
-    ensures listed { IfSome result (λ cell. IsListed reported.now.frame.now (with_byte_name cell.now)) }
+        ≡ slice_get (described_cells design.now) number }
+    ensures listed { IfSome result (λ cell. IsListed design.now.frame.now (with_byte_name cell.now)) }
 {
-    reported.cells.get(number)
+    design.cells.get(number)
 }
 
 /// Returns the verdict of the cell of this number. `None` if there is no such cell.
-fn verdict_of(reported: &DescribedDesign<'_>, number: usize) -> Option<Broken>
-    ensures { result ≡ verdict_at reported.now.verdicts.now number }
+fn verdict_of(design: &DescribedDesign<'_>, number: usize) -> Option<Broken>
+    ensures { result ≡ verdict_at design.now.verdicts.now number }
 {
-    match reported.verdicts.get(number) {
+    match design.verdicts.get(number) {
         Some(verdict) => *verdict,
         None => None,
     }
@@ -144,31 +144,31 @@ fn verdict_of(reported: &DescribedDesign<'_>, number: usize) -> Option<Broken>
 /// Makes the line of the cell of this number. `Ok(None)` if there is no such cell.
 fn cell_line(
     alloc: Global,
-    reported: &DescribedDesign<'_>,
+    design: &DescribedDesign<'_>,
     number: usize,
 ) -> Result<Option<Value>, AllocError>
-    ensures { IfOk result (λ line. option_map view line ≡ slice_get (part_lines reported.now Part.Cells) number) }
+    ensures { IfOk result (λ line. option_map view line ≡ slice_get (part_lines design.now Part.Cells) number) }
 {
-    let Some(cell) = cell_at(reported, number) else {
+    let Some(cell) = cell_at(design, number) else {
         return Ok(None);
     };
-    let verdict = verdict_of(reported, number);
-    let value = cell_value(alloc, reported.frame, reported.cells, cell, &verdict)?;
+    let verdict = verdict_of(design, number);
+    let value = cell_value(alloc, design.frame, design.cells, cell, &verdict)?;
     Ok(Some(value))
 }
 
 /// Returns the number of lines of a part.
 #[tactic(auto, using(crate::proofs::Numbered::count))]
-fn count_in(reported: &DescribedDesign<'_>, part: Part) -> usize
-    ensures { result ≡ length (part_lines reported.now part) }
+fn count_in(design: &DescribedDesign<'_>, part: Part) -> usize
+    ensures { result ≡ length (part_lines design.now part) }
 {
     match part {
         Part::Design => 1,
-        Part::Rows => reported.frame.rows.len(),
-        Part::Fences => reported.frame.teams.len(),
-        Part::Obstacles => reported.frame.obstacles.len(),
-        Part::Soft => reported.frame.soft.len(),
-        Part::Cells => reported.cells.len(),
+        Part::Rows => design.frame.rows.len(),
+        Part::Fences => design.frame.teams.len(),
+        Part::Obstacles => design.frame.obstacles.len(),
+        Part::Soft => design.frame.soft.len(),
+        Part::Cells => design.cells.len(),
         Part::Density => 1,
         Part::Total => 1,
     }
@@ -201,35 +201,35 @@ fn density_line(
 /// Makes the line of the totals, which has the number 0. `Ok(None)` for another number.
 fn total_line(
     alloc: Global,
-    reported: &DescribedDesign<'_>,
+    design: &DescribedDesign<'_>,
     number: usize,
 ) -> Result<Option<Value>, AllocError>
-    ensures { IfOk result (λ line. option_map view line ≡ slice_get (part_lines reported.now Part.Total) number) }
+    ensures { IfOk result (λ line. option_map view line ≡ slice_get (part_lines design.now Part.Total) number) }
 {
     if number > 0 {
         return Ok(None);
     }
-    Ok(Some(total_value(alloc, reported.frame, &counts_in(reported))?))
+    Ok(Some(total_value(alloc, design.frame, &counts_in(design))?))
 }
 
 /// Makes the line of this number of a part. `Ok(None)` if there is no such line.
 fn line_in(
     alloc: Global,
-    reported: &DescribedDesign<'_>,
+    design: &DescribedDesign<'_>,
     part: Part,
     number: usize,
 ) -> Result<Option<Value>, AllocError>
-    ensures { IfOk result (λ line. option_map view line ≡ slice_get (part_lines reported.now part) number) }
+    ensures { IfOk result (λ line. option_map view line ≡ slice_get (part_lines design.now part) number) }
 {
     match part {
-        Part::Design => design_line(alloc, reported.frame, number),
-        Part::Rows => row_line(alloc, reported.frame, number),
-        Part::Fences => fence_line(alloc, reported.frame, number),
-        Part::Obstacles => obstacle_line(alloc, reported.frame, reported.names, number),
-        Part::Soft => soft_line(alloc, reported.frame, number),
-        Part::Cells => cell_line(alloc, reported, number),
-        Part::Density => density_line(alloc, &reported.density, number),
-        Part::Total => total_line(alloc, reported, number),
+        Part::Design => design_line(alloc, design.frame, number),
+        Part::Rows => row_line(alloc, design.frame, number),
+        Part::Fences => fence_line(alloc, design.frame, number),
+        Part::Obstacles => obstacle_line(alloc, design.frame, design.names, number),
+        Part::Soft => soft_line(alloc, design.frame, number),
+        Part::Cells => cell_line(alloc, design, number),
+        Part::Density => density_line(alloc, &design.density, number),
+        Part::Total => total_line(alloc, design, number),
     }
 }
 
@@ -237,22 +237,22 @@ fn line_in(
 /// buffer. Writes nothing if there is no such line.
 fn put_number<W: Sink>(
     alloc: Global,
-    reported: &DescribedDesign<'_>,
+    design: &DescribedDesign<'_>,
     part: Part,
     number: usize,
     writer: &mut W,
     waiting: &mut Vec<u8>,
 ) -> Result<(), LineFault>
-    ensures ok { (d : Data) → slice_get (part_lines reported.now part) number ≡ Some d
+    ensures ok { (d : Data) → slice_get (part_lines design.now part) number ≡ Some d
         → OnOk result (WritesFrontOf (W.contents writer.old) (W.contents writer.new)
         (waiting.old.items ++ line_text d) waiting.new.items) }
-    ensures err { (d : Data) → slice_get (part_lines reported.now part) number ≡ Some d
+    ensures err { (d : Data) → slice_get (part_lines design.now part) number ≡ Some d
         → OnErr result
         (AppendsFront (W.contents writer.old) (W.contents writer.new) (waiting.old.items ++ line_text d)) }
     ensures failed { W.has_failed writer.new ≡ (is_line_output result || W.has_failed writer.old) }
     ensures held { W.holds writer.new ≡ W.holds writer.old }
 {
-    let Ok(line) = line_in(alloc, reported, part, number) else {
+    let Ok(line) = line_in(alloc, design, part, number) else {
         return Err(LineFault::OutOfMemory);
     };
     let Some(value) = line else {
@@ -264,20 +264,20 @@ fn put_number<W: Sink>(
 /// Writes the lines of a part, after the buffered bytes. Bytes may remain in the buffer.
 fn put_part<W: Sink>(
     alloc: Global,
-    reported: &DescribedDesign<'_>,
+    design: &DescribedDesign<'_>,
     part: Part,
     writer: &mut W,
     waiting: &mut Vec<u8>,
 ) -> Result<(), LineFault>
     ensures ok { OnOk result (WritesFrontOf (W.contents writer.old) (W.contents writer.new)
-        (waiting.old.items ++ part_text reported.now part) waiting.new.items) }
+        (waiting.old.items ++ part_text design.now part) waiting.new.items) }
     ensures err { OnErr result (AppendsFront (W.contents writer.old) (W.contents writer.new)
-        (waiting.old.items ++ part_text reported.now part)) }
+        (waiting.old.items ++ part_text design.now part)) }
     ensures failed { W.has_failed writer.new ≡ (is_line_output result || W.has_failed writer.old) }
     ensures held { W.holds writer.new ≡ W.holds writer.old }
 {
-    for number in 0..count_in(reported, part) {
-        put_number(alloc, reported, part, number, writer, waiting)?;
+    for number in 0..count_in(design, part) {
+        put_number(alloc, design, part, number, writer, waiting)?;
     }
     Ok(())
 }
@@ -285,20 +285,20 @@ fn put_part<W: Sink>(
 /// Writes the lines of these parts, after the buffered bytes. Bytes may remain in the buffer.
 fn write_kinds<W: Sink>(
     alloc: Global,
-    reported: &DescribedDesign<'_>,
+    design: &DescribedDesign<'_>,
     parts: &[Part],
     writer: &mut W,
     waiting: &mut Vec<u8>,
 ) -> Result<(), LineFault>
     ensures ok { OnOk result (WritesFrontOf (W.contents writer.old) (W.contents writer.new)
-        (waiting.old.items ++ flat_map (part_text reported.now) parts.now) waiting.new.items) }
+        (waiting.old.items ++ flat_map (part_text design.now) parts.now) waiting.new.items) }
     ensures err { OnErr result (AppendsFront (W.contents writer.old) (W.contents writer.new)
-        (waiting.old.items ++ flat_map (part_text reported.now) parts.now)) }
+        (waiting.old.items ++ flat_map (part_text design.now) parts.now)) }
     ensures failed { W.has_failed writer.new ≡ (is_line_output result || W.has_failed writer.old) }
     ensures held { W.holds writer.new ≡ W.holds writer.old }
 {
     for part in parts {
-        put_part(alloc, reported, *part, writer, waiting)?;
+        put_part(alloc, design, *part, writer, waiting)?;
     }
     Ok(())
 }
@@ -306,34 +306,34 @@ fn write_kinds<W: Sink>(
 /// Writes the buffered bytes and the lines of these parts, and flushes.
 fn write_all_kinds<W: Sink>(
     alloc: Global,
-    reported: &DescribedDesign<'_>,
+    design: &DescribedDesign<'_>,
     parts: &[Part],
     writer: &mut W,
     waiting: &mut Vec<u8>,
 ) -> Result<(), LineFault>
     ensures ok { OnOk result (Appends (W.contents writer.old) (W.contents writer.new)
-        (waiting.old.items ++ flat_map (part_text reported.now) parts.now)) }
+        (waiting.old.items ++ flat_map (part_text design.now) parts.now)) }
     ensures err { OnErr result (AppendsFront (W.contents writer.old) (W.contents writer.new)
-        (waiting.old.items ++ flat_map (part_text reported.now) parts.now)) }
+        (waiting.old.items ++ flat_map (part_text design.now) parts.now)) }
     ensures failed { W.has_failed writer.new ≡ (is_line_output result || W.has_failed writer.old) }
     ensures held { W.holds writer.new ≡ W.holds writer.old }
 {
-    write_kinds(alloc, reported, parts, writer, waiting)?;
+    write_kinds(alloc, design, parts, writer, waiting)?;
     put_last(writer, waiting)
 }
 
 /// Writes all parts in order, and flushes.
 pub(crate) fn put_parts<W: Sink>(
     alloc: Global,
-    reported: &DescribedDesign<'_>,
+    design: &DescribedDesign<'_>,
     writer: &mut W,
 ) -> Result<(), LineFault>
-    ensures ok { OnOk result (Appends (W.contents writer.old) (W.contents writer.new) (parts_text reported.now)) }
+    ensures ok { OnOk result (Appends (W.contents writer.old) (W.contents writer.new) (parts_text design.now)) }
     ensures err { OnErr result
-        (AppendsFront (W.contents writer.old) (W.contents writer.new) (parts_text reported.now)) }
+        (AppendsFront (W.contents writer.old) (W.contents writer.new) (parts_text design.now)) }
     ensures failed { W.has_failed writer.new ≡ (is_line_output result || W.has_failed writer.old) }
     ensures held { W.holds writer.new ≡ W.holds writer.old }
 {
     let mut waiting = Vec::new(alloc);
-    write_all_kinds(alloc, reported, &PARTS, writer, &mut waiting)
+    write_all_kinds(alloc, design, &PARTS, writer, &mut waiting)
 }

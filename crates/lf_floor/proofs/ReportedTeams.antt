@@ -29,11 +29,11 @@ back_within : (cells : ℕ) (moves : List Move) (places : Places) → length pla
 back_within cells [] places many = refl
 back_within cells (m ∷ moves) places many = by (nat_lt m.own cells) refl (back_within cells moves places many) where
   by : (b : Bool) → nat_lt m.own cells ≡ b → moves_taken_back (moves_within cells moves) places ≡ moves_taken_back moves places
-      → moves_taken_back (cond b (m ∷ moves_within cells moves) (moves_within cells moves)) places ≡ set (moves_taken_back moves places) m.own m.old
-  by true is rest = ap (λ (ps : Places). set ps m.own m.old) rest
+      → moves_taken_back (cond b (m ∷ moves_within cells moves) (moves_within cells moves)) places ≡ set (moves_taken_back moves places) m.own m.place
+  by true is rest = ap (λ (ps : Places). set ps m.own m.place) rest
   by false is rest =
       let past : cells ≤ m.own = ltb-false m.own cells is in
-      rest ∙ sym (set_past (moves_taken_back moves places) m.own m.old (subst (λ (n : ℕ). n ≤ m.own) (sym (taken_back_length moves places ∙ many)) past))
+      rest ∙ sym (set_past (moves_taken_back moves places) m.own m.place (subst (λ (n : ℕ). n ≤ m.own) (sym (taken_back_length moves places ∙ many)) past))
 
 pub entries_within : (cells : ℕ) (stack : List (List Move)) (places : Places) → length places ≡ cells
     → entries_of places (map (moves_within cells) stack) ≡ entries_of places stack

@@ -106,29 +106,29 @@ fn run_team_command<S: Seeker>(
     seeker: &S,
     number: usize,
     tables: &mut Tables,
-    order: &TeamCommand<&[u8]>,
+    command: &TeamCommand<&[u8]>,
 ) -> Result<Reply, AllocError>
     requires within { number < length (frame_of tables.old).teams + 1 }
     requires tables { AreTables tables.old }
     ensures ok { (l : Legalizer) → IfOk result (λ reply. IsGivenAnswer
-        (answer_at (Some number) l (floor_in tables.old) (order_of order.now)) reply (floor_in tables.new)) }
+        (answer_at (Some number) l (floor_in tables.old) (order_of command.now)) reply (floor_in tables.new)) }
     ensures err { (l : Legalizer) → OnErr result (IsOutOfMemoryAnswer
-        (answer_at (Some number) l (floor_in tables.old) (order_of order.now)) (floor_in tables.old)
+        (answer_at (Some number) l (floor_in tables.old) (order_of command.now)) (floor_in tables.old)
         (floor_in tables.new)) }
-    ensures takes { OnErr result (takes_memory (order_of order.now) ≡ true) }
-    ensures untested { (l : Legalizer) → OnErr result (is_tested (order_of order.now)
-        (answer_at (Some number) l (floor_in tables.old) (order_of order.now)).reply ≡ false) }
+    ensures takes { OnErr result (takes_memory (order_of command.now) ≡ true) }
+    ensures untested { (l : Legalizer) → OnErr result (is_tested (order_of command.now)
+        (answer_at (Some number) l (floor_in tables.old) (order_of command.now)).reply ≡ false) }
     ensures frame { frame_of tables.new ≡ frame_of tables.old }
     ensures tables { AreTables tables.new }
 {
     legalizer_exists();
-    let around = TeamContext {
+    let context = TeamContext {
         alloc,
         seeker,
         number,
         padding: tables.padding(number),
     };
-    tables.run_command(&around, order)
+    tables.run_command(&context, command)
 }
 
 /// Appends a reply, for which there is room.

@@ -32,11 +32,11 @@ pub enum Response {
 
 /// Returns the session that requests the team's DEF text by this command. `None` if the command
 /// does not request it.
-fn def_session(order: &TeamCommand<&[u8]>) -> Option<u32>
-    ensures is { IfSome result (λ session. order_of order.now ≡ Within session RequestDef) }
-    ensures none { IfNone result (WantsTeamText (order_of order.now) → ⊥) }
+fn def_session(command: &TeamCommand<&[u8]>) -> Option<u32>
+    ensures is { IfSome result (λ session. order_of command.now ≡ Within session RequestDef) }
+    ensures none { IfNone result (WantsTeamText (order_of command.now) → ⊥) }
 {
-    match order {
+    match command {
         TeamCommand::Within {
             session,
             action: Action::Def,

@@ -55,30 +55,30 @@ fn set_numbers(
 }
 
 /// Restores the revision, padding, session slots and undo entries of the team of that number. Its
-/// cells are placed already, and it has no undo entry yet. `tally` has the number of its boxes in
+/// cells are placed already, and it has no undo entry yet. `counts` has the number of its boxes in
 /// each strip.
 ///
 /// `Err` if an allocation fails.
 fn restore_team(
     alloc: Global,
     tables: &mut Tables,
-    tally: &mut StripCounts,
+    counts: &mut StripCounts,
     number: usize,
     row: SavedTeamRow,
 ) -> Result<(), AllocError>
     requires served { HasTeamRow number tables.old }
     requires due { IsSavedTeamOf (frame_of tables.old).limits (named_team [] (own_team number tables.old))
         (saved_team_at (own_team number tables.old) (team_view row)) }
-    requires room { KeepsCapacities tally.old tables.old.placement.held.rooms }
-    requires awaits { HasNoEntriesYet number tally.old tables.old }
+    requires room { KeepsCapacities counts.old tables.old.placement.held.rooms }
+    requires awaits { HasNoEntriesYet number counts.old tables.old }
     ensures team { OnOk result (own_team number tables.new
         ≡ restored_team (own_team number tables.old) (saved_team_at (own_team number tables.old) (team_view row))) }
     ensures others { OnOk result (KeepsOtherTeams number tables.old tables.new) }
     ensures cells { OnOk result (tables.new.placement.cells ≡ tables.old.placement.cells) }
     ensures fit { OnOk result (EntriesFit number tables.new) }
-    ensures room { OnOk result (KeepsCapacities tally.new tables.new.placement.held.rooms) }
-    ensures awaits { (other : ℕ) → other ≢ number → HasNoEntriesYet other tally.old tables.old
-        → OnOk result (HasNoEntriesYet other tally.new tables.new) }
+    ensures room { OnOk result (KeepsCapacities counts.new tables.new.placement.held.rooms) }
+    ensures awaits { (other : ℕ) → other ≢ number → HasNoEntriesYet other counts.old tables.old
+        → OnOk result (HasNoEntriesYet other counts.new tables.new) }
 {
     let SavedTeamRow {
         revision,
@@ -91,7 +91,7 @@ fn restore_team(
     restore_entries(
         alloc,
         &mut tables.placement,
-        tally,
+        counts,
         &mut tables.undo,
         number,
         entries,
@@ -107,15 +107,15 @@ fn restore_team(
 fn restore_teams(
     alloc: Global,
     tables: &mut Tables,
-    tally: &mut StripCounts,
+    counts: &mut StripCounts,
     rows: Vec<SavedTeamRow>,
 ) -> Result<(), AllocError>
     requires tables { AreTables tables.old }
     requires many { length rows.items ≡ length (teams_in tables.old) }
     requires due { MatchDesign (frame_of tables.old).limits (teams_in tables.old)
         (saved_teams_at tables.old (team_views rows.items)) }
-    requires room { KeepsCapacities tally.old tables.old.placement.held.rooms }
-    requires each { FirstHaveNoEntriesYet (length rows.items) tally.old tables.old }
+    requires room { KeepsCapacities counts.old tables.old.placement.held.rooms }
+    requires each { FirstHaveNoEntriesYet (length rows.items) counts.old tables.old }
     ensures tables { OnOk result (AreTables tables.new) }
     ensures floor { OnOk result (floor_in tables.new
         ≡ restored_floor (floor_in tables.old) (saved_teams_at tables.old (team_views rows.items))) }
@@ -126,7 +126,7 @@ fn restore_teams(
             unreachable!();
         };
         let number = left.as_slice().len();
-        restore_team(alloc, tables, tally, number, row)?;
+        restore_team(alloc, tables, counts, number, row)?;
     }
     Ok(())
 }

@@ -39,23 +39,23 @@ fn working_places(
 /// `Err` if an allocation fails.
 fn fit_entries(
     placement: &mut Placement,
-    tally: &mut StripCounts,
+    counts: &mut StripCounts,
     team: usize,
     places: &mut [PackedPlace],
     entries: &[Moves],
 ) -> Result<(), AllocError>
     requires own { All (λ moves. All (λ m. m.own < length places.old) moves) entries.now }
-    requires room { KeepsCapacities tally.old placement.old.held.rooms }
-    requires bounds { BoundsAt placement.old team places.old tally.old }
+    requires room { KeepsCapacities counts.old placement.old.held.rooms }
+    requires bounds { BoundsAt placement.old team places.old counts.old }
     ensures fit { OnOk result (All (Fits placement.new team) (entries_of places.old entries.now)) }
-    ensures room { OnOk result (KeepsCapacities tally.new placement.new.held.rooms) }
+    ensures room { OnOk result (KeepsCapacities counts.new placement.new.held.rooms) }
     ensures same { OnOk result (SameButRooms placement.old placement.new) }
-    ensures others { (at : Places) → (other : ℕ) → other ≢ team → BoundsAt placement.old other at tally.old
-        → OnOk result (BoundsAt placement.new other at tally.new) }
+    ensures others { (at : Places) → (other : ℕ) → other ≢ team → BoundsAt placement.old other at counts.old
+        → OnOk result (BoundsAt placement.new other at counts.new) }
 {
     fitting_is_stable();
     for moves in entries {
-        placement.reserve_undo(tally, team, places, moves)?;
+        placement.reserve_undo(counts, team, places, moves)?;
     }
     Ok(())
 }
@@ -93,7 +93,7 @@ fn push_entries(undo: &mut UndoStore, team: usize, entries: Vec<Moves>) -> Resul
 pub fn restore_entries(
     alloc: Global,
     placement: &mut Placement,
-    tally: &mut StripCounts,
+    counts: &mut StripCounts,
     undo: &mut UndoStore,
     team: usize,
     entries: Vec<Moves>,
@@ -102,15 +102,15 @@ pub fn restore_entries(
     requires none { stack_of undo.old team ≡ [] }
     requires few { length entries.items ≤ undo.old.limit }
     requires own { All (λ moves. All (λ m. m.own < length (cells_of placement.old.cells team)) moves) entries.items }
-    requires room { KeepsCapacities tally.old placement.old.held.rooms }
-    requires bounds { BoundsAt placement.old team (working_places_of (cells_of placement.old.cells team)) tally.old }
+    requires room { KeepsCapacities counts.old placement.old.held.rooms }
+    requires bounds { BoundsAt placement.old team (working_places_of (cells_of placement.old.cells team)) counts.old }
     ensures stack { OnOk result (stack_of undo.new team ≡ entries.items) }
     ensures fit { OnOk result (SavedEntriesFit placement.new undo.new team) }
     ensures cells { OnOk result (placement.new.cells ≡ placement.old.cells) }
     ensures others { OnOk result (OthersStay team placement.old placement.new undo.old undo.new) }
-    ensures room { OnOk result (KeepsCapacities tally.new placement.new.held.rooms) }
-    ensures tally { (at : Places) → (other : ℕ) → other ≢ team → BoundsAt placement.old other at tally.old
-        → OnOk result (BoundsAt placement.new other at tally.new) }
+    ensures room { OnOk result (KeepsCapacities counts.new placement.new.held.rooms) }
+    ensures counts { (at : Places) → (other : ℕ) → other ≢ team → BoundsAt placement.old other at counts.old
+        → OnOk result (BoundsAt placement.new other at counts.new) }
     ensures teams { OnOk result (length undo.new.lists ≡ length undo.old.lists) }
     ensures limit { OnOk result (undo.new.limit ≡ undo.old.limit) }
 {
@@ -118,7 +118,7 @@ pub fn restore_entries(
         return Ok(());
     }
     let mut places = working_places(alloc, placement.cells(), team)?;
-    fit_entries(placement, tally, team, &mut places, &entries)?;
+    fit_entries(placement, counts, team, &mut places, &entries)?;
     push_entries(undo, team, entries)?;
     Ok(())
 }

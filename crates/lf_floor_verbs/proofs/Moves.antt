@@ -31,6 +31,6 @@ not_moved (c ∷ cs) zero = refl
 not_moved (c ∷ cs) (suc own) = ap (λ (r : List Cell). c ∷ r) (not_moved cs own)
 
 -- one more move appended to the others
-pub made_more : (moves : List Move) (m : Move) (cells : List Cell) → moves_applied (moves ++ m ∷ []) cells ≡ moved (moves_applied moves cells) m.own m.old
+pub made_more : (moves : List Move) (m : Move) (cells : List Cell) → moves_applied (moves ++ m ∷ []) cells ≡ moved (moves_applied moves cells) m.own m.place
 made_more [] m cells = refl
-made_more (x ∷ moves) m cells = made_more moves m (moved cells x.own x.old)
+made_more (x ∷ moves) m cells = made_more moves m (moved cells x.own x.place)

@@ -45,12 +45,12 @@ pub stays_noted : (cells : List Cell) (own : ℕ) (moves : List Move) → workin
 stays_noted cells own moves same = λ now are working committed.
     are ∙ sym (ap (λ (p : Option Place). moved now own p) (committed ∙ sym same ∙ sym working) ∙ not_moved now own)
 
-pub one_noted : (cells : List Cell) (own : ℕ) (old new : List Move) (m : Move) → m.own ≡ own → m.old ≡ committed_at cells own → new ≡ old ++ m ∷ []
+pub one_noted : (cells : List Cell) (own : ℕ) (old new : List Move) (m : Move) → m.own ≡ own → m.place ≡ committed_at cells own → new ≡ old ++ m ∷ []
     → IsRevertMove cells own old new
 one_noted cells own old new m own_is old_is are = λ now before working committed.
     ap (λ (ms : List Move). moves_applied ms cells) are ∙ made_more old m cells
-    ∙ ap (λ (cs : List Cell). moved cs m.own m.old) before
-    ∙ ap (λ (n : ℕ). moved now n m.old) own_is
+    ∙ ap (λ (cs : List Cell). moved cs m.own m.place) before
+    ∙ ap (λ (n : ℕ). moved now n m.place) own_is
     ∙ ap (λ (p : Option Place). moved now own p) (old_is ∙ sym committed)
 
 pub one_more_noted : (n : ℕ) (cells : List Cell) (old new : List Move) → moves_applied old cells ≡ back_first n cells → IsRevertMove cells n old new

@@ -23,7 +23,7 @@ pub record IsExchange (number : ℕ) (cells : List Cell) (x : Exchange) : Type 0
 
 -- the moves of the exchange
 abbrev pub exchange_moves : Exchange → List Move
-exchange_moves x = record { own = x.first.own; old = Some x.to } ∷ record { own = x.second.own; old = Some x.from } ∷ []
+exchange_moves x = record { own = x.first.own; place = Some x.to } ∷ record { own = x.second.own; place = Some x.from } ∷ []
 
 -- the cells are exchanged; the first breaks no rule except overlap, and alone is the first rule
 -- except overlap that the second breaks

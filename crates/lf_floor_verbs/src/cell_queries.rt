@@ -52,20 +52,20 @@ pub(crate) fn broken_where(placement: &Placement, id: CellId, padding: Padding) 
 ///
 /// `Err` if an allocation fails.
 pub(crate) fn best_place<S: Seeker>(
-    around: &TeamContext<'_, S>,
+    context: &TeamContext<'_, S>,
     placement: &Placement,
     id: CellId,
     target: &Point,
 ) -> Result<Option<Place>, AllocError>
-    requires team { id.team ≡ around.now.number }
+    requires team { id.team ≡ context.now.number }
     ensures best { (l : Legalizer) → IfOk result (λ found. found
-        ≡ best_at (context_at l around.now placement.now)
-        (cells_of placement.now.cells around.now.number) id.own target.now) }
+        ≡ best_at (context_at l context.now placement.now)
+        (cells_of placement.now.cells context.now.number) id.own target.now) }
     ensures spot { (l : Legalizer) → IfOk result (λ found. option_map spot_of found
-        ≡ best_of l placement.now.frame around.now.number around.now.padding.sites
-        (cells_of placement.now.cells around.now.number) id.own target.now) }
+        ≡ best_of l placement.now.frame context.now.number context.now.padding.sites
+        (cells_of placement.now.cells context.now.number) id.own target.now) }
 {
-    placement.best_place(around.alloc, around.seeker, id, target, around.padding)
+    placement.best_place(context.alloc, context.seeker, id, target, context.padding)
 }
 
 /// Returns the position of the team's first unplaced cell, in loading order. `None` if every cell

@@ -25,36 +25,36 @@ impl Tables {
     /// `Err` if an allocation fails; then the team is unchanged.
     fn run_if_current<S: Seeker>(
         &mut self,
-        around: &TeamContext<'_, S>,
+        context: &TeamContext<'_, S>,
         session: u32,
         seen: u32,
         change: &Change<&[u8]>,
     ) -> Result<Reply, AllocError>
-        requires served { HasTeamRow around.now.number self.old }
-        requires open { seen_at (slots_of self.old.sessions around.now.number) session ≡ Some seen }
+        requires served { HasTeamRow context.now.number self.old }
+        requires open { seen_at (slots_of self.old.sessions context.now.number) session ≡ Some seen }
         ensures ok { (l : Legalizer) → IfOk result (λ reply. IsOutcome
-            (unless_stale seen (context_in l around.now self.old) session (change_of change.now)
-            (team_in around.now self.old))
-            reply (team_in around.now self.new)) }
+            (unless_stale seen (context_in l context.now self.old) session (change_of change.now)
+            (team_in context.now self.old))
+            reply (team_in context.now self.new)) }
         ensures err { (l : Legalizer) → OnErr result (IsOutOfMemory
-            (unless_stale seen (context_in l around.now self.old) session (change_of change.now)
-            (team_in around.now self.old))
-            (team_in around.now self.old) (team_in around.now self.new)) }
-        ensures others { KeepsOtherTeams around.now.number self.old self.new }
-        ensures fit { EntriesFit around.now.number self.new }
+            (unless_stale seen (context_in l context.now self.old) session (change_of change.now)
+            (team_in context.now self.old))
+            (team_in context.now self.old) (team_in context.now self.new)) }
+        ensures others { KeepsOtherTeams context.now.number self.old self.new }
+        ensures fit { EntriesFit context.now.number self.new }
         ensures takes { OnErr result (takes_memory (Within session (Changing (change_of change.now))) ≡ true) }
         ensures untested { (l : Legalizer) → OnErr result (is_tested (Within session (Changing (change_of change.now)))
-            (unless_stale seen (context_in l around.now self.old) session (change_of change.now)
-            (team_in around.now self.old)).reply ≡ false) }
+            (unless_stale seen (context_in l context.now self.old) session (change_of change.now)
+            (team_in context.now self.old)).reply ≡ false) }
     {
-        let revision = self.revision(around.number);
+        let revision = self.revision(context.number);
         if seen != revision {
             return Ok(Reply::Refused(Refusal::Stale { revision }));
         }
         if revision >= self.placement.frame().limits.revisions {
             return Ok(Reply::Refused(Refusal::RevisionsSpent));
         }
-        self.run_change(around, session, change)
+        self.run_change(context, session, change)
     }
 
     /// Runs an action of an open session that has seen this revision.
@@ -62,36 +62,36 @@ impl Tables {
     /// `Err` if an allocation fails; then the team is unchanged.
     fn run_action<S: Seeker>(
         &mut self,
-        around: &TeamContext<'_, S>,
+        context: &TeamContext<'_, S>,
         session: u32,
         seen: u32,
         action: &Action<&[u8]>,
     ) -> Result<Reply, AllocError>
-        requires served { HasTeamRow around.now.number self.old }
-        requires open { seen_at (slots_of self.old.sessions around.now.number) session ≡ Some seen }
+        requires served { HasTeamRow context.now.number self.old }
+        requires open { seen_at (slots_of self.old.sessions context.now.number) session ≡ Some seen }
         ensures ok { (l : Legalizer) → IfOk result (λ reply. IsOutcome
-            (outcome_within seen (context_in l around.now self.old) session (action_of action.now)
-            (team_in around.now self.old))
-            reply (team_in around.now self.new)) }
+            (outcome_within seen (context_in l context.now self.old) session (action_of action.now)
+            (team_in context.now self.old))
+            reply (team_in context.now self.new)) }
         ensures err { (l : Legalizer) → OnErr result (IsOutOfMemory
-            (outcome_within seen (context_in l around.now self.old) session (action_of action.now)
-            (team_in around.now self.old))
-            (team_in around.now self.old) (team_in around.now self.new)) }
-        ensures others { KeepsOtherTeams around.now.number self.old self.new }
-        ensures fit { EntriesFit around.now.number self.new }
+            (outcome_within seen (context_in l context.now self.old) session (action_of action.now)
+            (team_in context.now self.old))
+            (team_in context.now self.old) (team_in context.now self.new)) }
+        ensures others { KeepsOtherTeams context.now.number self.old self.new }
+        ensures fit { EntriesFit context.now.number self.new }
         ensures takes { OnErr result (takes_memory (Within session (action_of action.now)) ≡ true) }
         ensures untested { (l : Legalizer) → OnErr result (is_tested (Within session (action_of action.now))
-            (outcome_within seen (context_in l around.now self.old) session (action_of action.now)
-            (team_in around.now self.old)).reply ≡ false) }
+            (outcome_within seen (context_in l context.now self.old) session (action_of action.now)
+            (team_in context.now self.old)).reply ≡ false) }
     {
         match action {
-            Action::Close => Ok(self.close(around.number, session)),
-            Action::Sync => Ok(self.sync(around.number, session)),
-            Action::Check => self.check(around),
-            Action::Def => self.write_def(around),
-            Action::Where { cell } => Ok(self.run_where(around.number, cell)),
-            Action::Find { cell, target } => self.find(around, cell, target),
-            Action::Change(change) => self.run_if_current(around, session, seen, change),
+            Action::Close => Ok(self.close(context.number, session)),
+            Action::Sync => Ok(self.sync(context.number, session)),
+            Action::Check => self.check(context),
+            Action::Def => self.write_def(context),
+            Action::Where { cell } => Ok(self.run_where(context.number, cell)),
+            Action::Find { cell, target } => self.find(context, cell, target),
+            Action::Change(change) => self.run_if_current(context, session, seen, change),
         }
     }
 
@@ -101,28 +101,28 @@ impl Tables {
     /// `Err` if an allocation fails; then the team is unchanged.
     pub fn run_command<S: Seeker>(
         &mut self,
-        around: &TeamContext<'_, S>,
-        order: &TeamCommand<&[u8]>,
+        context: &TeamContext<'_, S>,
+        command: &TeamCommand<&[u8]>,
     ) -> Result<Reply, AllocError>
-        requires served { HasTeamRow around.now.number self.old }
+        requires served { HasTeamRow context.now.number self.old }
         ensures ok { (l : Legalizer) → IfOk result (λ reply. IsOutcome
-            (outcome_of (context_in l around.now self.old) (order_of order.now) (team_in around.now self.old))
-            reply (team_in around.now self.new)) }
+            (outcome_of (context_in l context.now self.old) (order_of command.now) (team_in context.now self.old))
+            reply (team_in context.now self.new)) }
         ensures err { (l : Legalizer) → OnErr result (IsOutOfMemory
-            (outcome_of (context_in l around.now self.old) (order_of order.now) (team_in around.now self.old))
-            (team_in around.now self.old) (team_in around.now self.new)) }
-        ensures others { KeepsOtherTeams around.now.number self.old self.new }
-        ensures fit { EntriesFit around.now.number self.new }
-        ensures takes { OnErr result (takes_memory (order_of order.now) ≡ true) }
-        ensures untested { (l : Legalizer) → OnErr result (is_tested (order_of order.now)
-            (outcome_of (context_in l around.now self.old) (order_of order.now)
-            (team_in around.now self.old)).reply ≡ false) }
+            (outcome_of (context_in l context.now self.old) (order_of command.now) (team_in context.now self.old))
+            (team_in context.now self.old) (team_in context.now self.new)) }
+        ensures others { KeepsOtherTeams context.now.number self.old self.new }
+        ensures fit { EntriesFit context.now.number self.new }
+        ensures takes { OnErr result (takes_memory (order_of command.now) ≡ true) }
+        ensures untested { (l : Legalizer) → OnErr result (is_tested (order_of command.now)
+            (outcome_of (context_in l context.now self.old) (order_of command.now)
+            (team_in context.now self.old)).reply ≡ false) }
     {
-        match order {
-            TeamCommand::Open => Ok(self.open(around.number)),
+        match command {
+            TeamCommand::Open => Ok(self.open(context.number)),
             TeamCommand::Within { session, action } => {
-                match self.sessions.seen(around.number, *session) {
-                    Some(seen) => self.run_action(around, *session, seen, action),
+                match self.sessions.seen(context.number, *session) {
+                    Some(seen) => self.run_action(context, *session, seen, action),
                     None => Ok(Reply::Refused(Refusal::NoSession)),
                 }
             }

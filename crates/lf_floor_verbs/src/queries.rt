@@ -37,16 +37,16 @@ impl Tables {
     ///
     /// `Err` if an allocation fails.
     #[tactic(auto, unfolding(lf_floor_model::specs::Queries::checked))]
-    pub(crate) fn check<S>(&self, around: &TeamContext<'_, S>) -> Result<Reply, AllocError>
-        requires team { IsTeamOf (frame_of self.now) (team_in around.now self.now) }
+    pub(crate) fn check<S>(&self, context: &TeamContext<'_, S>) -> Result<Reply, AllocError>
+        requires team { IsTeamOf (frame_of self.now) (team_in context.now self.now) }
         ensures ok { (l : Legalizer) → IfOk result (λ reply. IsOutcome
-            (checked (context_in l around.now self.now) (team_in around.now self.now))
-            reply (team_in around.now self.now)) }
+            (checked (context_in l context.now self.now) (team_in context.now self.now))
+            reply (team_in context.now self.now)) }
         ensures err { (l : Legalizer) → OnErr result (IsOutOfMemory
-            (checked (context_in l around.now self.now) (team_in around.now self.now))
-            (team_in around.now self.now) (team_in around.now self.now)) }
+            (checked (context_in l context.now self.now) (team_in context.now self.now))
+            (team_in context.now self.now) (team_in context.now self.now)) }
     {
-        let text = report_text(around, self)?;
+        let text = report_text(context, self)?;
         Ok(Reply::Report(text))
     }
 
@@ -54,19 +54,19 @@ impl Tables {
     ///
     /// `Err` if an allocation fails.
     #[tactic(auto, unfolding(lf_floor_model::specs::Queries::written))]
-    pub(crate) fn write_def<S>(&self, around: &TeamContext<'_, S>) -> Result<Reply, AllocError>
+    pub(crate) fn write_def<S>(&self, context: &TeamContext<'_, S>) -> Result<Reply, AllocError>
         ensures ok { (l : Legalizer) → IfOk result (λ reply. IsOutcome
-            (written (context_in l around.now self.now) (team_in around.now self.now))
-            reply (team_in around.now self.now)) }
+            (written (context_in l context.now self.now) (team_in context.now self.now))
+            reply (team_in context.now self.now)) }
         ensures err { (l : Legalizer) → OnErr result (IsOutOfMemory
-            (written (context_in l around.now self.now) (team_in around.now self.now))
-            (team_in around.now self.now) (team_in around.now self.now)) }
+            (written (context_in l context.now self.now) (team_in context.now self.now))
+            (team_in context.now self.now) (team_in context.now self.now)) }
     {
         let text = team_def(
-            around.alloc,
+            context.alloc,
             self.placement.frame(),
             self.placement.cells(),
-            around.number,
+            context.number,
         )?;
         Ok(Reply::Def(Text::from_bytes(text)))
     }
@@ -78,21 +78,21 @@ impl Tables {
     #[tactic(auto, unfolding(lf_floor_model::specs::Queries::found))]
     pub(crate) fn find<S: Seeker>(
         &self,
-        around: &TeamContext<'_, S>,
+        context: &TeamContext<'_, S>,
         name: &[u8],
         target: &Point,
     ) -> Result<Reply, AllocError>
         ensures ok { (l : Legalizer) → IfOk result (λ reply. IsOutcome
-            (found (context_in l around.now self.now) name.now target.now (team_in around.now self.now))
-            reply (team_in around.now self.now)) }
+            (found (context_in l context.now self.now) name.now target.now (team_in context.now self.now))
+            reply (team_in context.now self.now)) }
         ensures err { (l : Legalizer) → OnErr result (IsOutOfMemory
-            (found (context_in l around.now self.now) name.now target.now (team_in around.now self.now))
-            (team_in around.now self.now) (team_in around.now self.now)) }
+            (found (context_in l context.now self.now) name.now target.now (team_in context.now self.now))
+            (team_in context.now self.now) (team_in context.now self.now)) }
     {
-        let Some(id) = self.cell_named(around.number, name) else {
+        let Some(id) = self.cell_named(context.number, name) else {
             return Ok(Reply::Refused(Refusal::NoCell));
         };
-        match best_place(around, &self.placement, id, target)? {
+        match best_place(context, &self.placement, id, target)? {
             Some(place) => Ok(Reply::At(place)),
             None => Ok(Reply::Refused(Refusal::NoPlace { cell: id.own })),
         }

@@ -17,7 +17,7 @@ impl Tables {
     /// Reserves memory for one more undo entry of the team.
     ///
     /// `Err` if an allocation fails.
-    pub(crate) fn make_room(&mut self, number: usize) -> Result<(), AllocError>
+    pub(crate) fn reserve_entry(&mut self, number: usize) -> Result<(), AllocError>
         requires { HasRows number self.old }
         ensures room { OnOk result (HasRoomForEntry self.new.undo number) }
         ensures grown { OnlyGainRoom self.old self.new }
@@ -30,7 +30,7 @@ impl Tables {
     /// the moves lead to.
     ///
     /// `Err` if an allocation fails.
-    pub(crate) fn make_room_for(
+    pub(crate) fn reserve_moves(
         &mut self,
         alloc: Global,
         number: usize,
@@ -42,7 +42,7 @@ impl Tables {
             (working_places_of (moves_applied moves.now (table_cells number self.old)))) }
         ensures grown { OnlyGainRoom self.old self.new }
     {
-        self.make_room(number)?;
+        self.reserve_entry(number)?;
         self.placement.reserve(alloc, number, moves)
     }
 
@@ -109,7 +109,7 @@ impl Tables {
         let number = id.team as usize;
         let mut moves = Moves::new(alloc);
         moves.push(Move::new(id.own, place))?;
-        self.make_room_for(alloc, number, moves.as_slice())?;
+        self.reserve_moves(alloc, number, moves.as_slice())?;
         Ok(self.change_places(number, session, moves))
     }
 }

@@ -71,24 +71,24 @@ fn put_cells(
 ///
 /// `Err` if an allocation fails.
 pub(crate) fn report_text<S>(
-    around: &TeamContext<'_, S>,
+    context: &TeamContext<'_, S>,
     tables: &Tables,
 ) -> Result<Text, AllocError>
-    requires team { IsTeamOf (frame_of tables.now) (team_in around.now tables.now) }
+    requires team { IsTeamOf (frame_of tables.now) (team_in context.now tables.now) }
     ensures { IfOk result (λ text. (l : Legalizer) → text ≡ report_text
-        (report_of l (frame_of tables.now) around.now.padding.sites
-        (map (listed_of around.now.number) (table_cells around.now.number tables.now)))) }
+        (report_of l (frame_of tables.now) context.now.padding.sites
+        (map (listed_of context.now.number) (table_cells context.now.number tables.now)))) }
 {
-    let marks = legal_marks(around, tables)?;
+    let marks = legal_marks(context, tables)?;
     let cells = tables.placement.cells();
-    let count = cells.cells_of(around.number).len();
-    let mut text = report_begun(around.alloc, count, unplaced_in(cells, around.number))?;
+    let count = cells.cells_of(context.number).len();
+    let mut text = report_begun(context.alloc, count, unplaced_in(cells, context.number))?;
     put_cells(
-        around.alloc,
+        context.alloc,
         &tables.placement,
-        around.number,
+        context.number,
         &marks,
-        around.padding,
+        context.padding,
         &mut text,
     )?;
     report_closed(text)

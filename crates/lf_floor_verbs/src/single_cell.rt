@@ -27,36 +27,36 @@ impl Tables {
     /// `Err` if an allocation fails; then the team is unchanged.
     pub(crate) fn run_change<S: Seeker>(
         &mut self,
-        around: &TeamContext<'_, S>,
+        context: &TeamContext<'_, S>,
         session: u32,
         change: &Change<&[u8]>,
     ) -> Result<Reply, AllocError>
-        requires change { CanChange around.now.number session self.old }
+        requires change { CanChange context.now.number session self.old }
         ensures ok { (l : Legalizer) → IfOk result (λ reply. IsOutcome
-            (outcome_of_change (context_in l around.now self.old) session (change_of change.now)
-            (team_in around.now self.old))
-            reply (team_in around.now self.new)) }
+            (outcome_of_change (context_in l context.now self.old) session (change_of change.now)
+            (team_in context.now self.old))
+            reply (team_in context.now self.new)) }
         ensures err { (l : Legalizer) → OnErr result (IsOutOfMemory
-            (outcome_of_change (context_in l around.now self.old) session (change_of change.now)
-            (team_in around.now self.old))
-            (team_in around.now self.old) (team_in around.now self.new)) }
-        ensures others { KeepsOtherTeams around.now.number self.old self.new }
-        ensures fit { EntriesFit around.now.number self.new }
+            (outcome_of_change (context_in l context.now self.old) session (change_of change.now)
+            (team_in context.now self.old))
+            (team_in context.now self.old) (team_in context.now self.new)) }
+        ensures others { KeepsOtherTeams context.now.number self.old self.new }
+        ensures fit { EntriesFit context.now.number self.new }
         ensures takes { OnErr result (takes_memory (Within session (Changing (change_of change.now))) ≡ true) }
         ensures untested { (l : Legalizer) → OnErr result (is_tested (Within session (Changing (change_of change.now)))
-            (outcome_of_change (context_in l around.now self.old) session (change_of change.now)
-            (team_in around.now self.old)).reply ≡ false) }
+            (outcome_of_change (context_in l context.now self.old) session (change_of change.now)
+            (team_in context.now self.old)).reply ≡ false) }
     {
         match change {
-            Change::Place { cell, place } => self.place(around, session, cell, place),
-            Change::Legalize { cell, target } => self.legalize(around, session, cell, target),
-            Change::Tidy => self.tidy(around, session),
-            Change::Unplace { cell } => self.unplace(around, session, cell),
-            Change::Swap { first, second } => self.swap(around, session, first, second),
-            Change::Undo => Ok(self.undo(around.number, session)),
-            Change::Commit => self.commit(around, session),
-            Change::Revert => self.revert(around, session),
-            Change::Pad { padding } => Ok(self.pad(around.number, session, *padding)),
+            Change::Place { cell, place } => self.place(context, session, cell, place),
+            Change::Legalize { cell, target } => self.legalize(context, session, cell, target),
+            Change::Tidy => self.tidy(context, session),
+            Change::Unplace { cell } => self.unplace(context, session, cell),
+            Change::Swap { first, second } => self.swap(context, session, first, second),
+            Change::Undo => Ok(self.undo(context.number, session)),
+            Change::Commit => self.commit(context, session),
+            Change::Revert => self.revert(context, session),
+            Change::Pad { padding } => Ok(self.pad(context.number, session, *padding)),
         }
     }
 
@@ -67,36 +67,36 @@ impl Tables {
     #[tactic(auto, unfolding(lf_floor_model::specs::Changes::placed))]
     pub(crate) fn place<S>(
         &mut self,
-        around: &TeamContext<'_, S>,
+        context: &TeamContext<'_, S>,
         session: u32,
         name: &[u8],
         place: &Place,
     ) -> Result<Reply, AllocError>
-        requires change { CanChange around.now.number session self.old }
+        requires change { CanChange context.now.number session self.old }
         ensures ok { (l : Legalizer) → IfOk result (λ reply. IsOutcome
-            (placed (context_in l around.now self.old) session name.now place.now (team_in around.now self.old))
-            reply (team_in around.now self.new)) }
+            (placed (context_in l context.now self.old) session name.now place.now (team_in context.now self.old))
+            reply (team_in context.now self.new)) }
         ensures err { (l : Legalizer) → OnErr result (IsOutOfMemory
-            (placed (context_in l around.now self.old) session name.now place.now (team_in around.now self.old))
-            (team_in around.now self.old) (team_in around.now self.new)) }
+            (placed (context_in l context.now self.old) session name.now place.now (team_in context.now self.old))
+            (team_in context.now self.old) (team_in context.now self.new)) }
         ensures untested { (l : Legalizer)
             → OnErr result (is_tested (Within session (Changing (PlaceAt name.now place.now)))
-            (placed (context_in l around.now self.old) session name.now place.now
-            (team_in around.now self.old)).reply ≡ false) }
-        ensures others { KeepsOtherTeams around.now.number self.old self.new }
-        ensures fit { EntriesFit around.now.number self.new }
+            (placed (context_in l context.now self.old) session name.now place.now
+            (team_in context.now self.old)).reply ≡ false) }
+        ensures others { KeepsOtherTeams context.now.number self.old self.new }
+        ensures fit { EntriesFit context.now.number self.new }
     {
-        let Some(id) = self.cell_named(around.number, name) else {
+        let Some(id) = self.cell_named(context.number, name) else {
             return Ok(Reply::Refused(Refusal::NoCell));
         };
-        if let Some(broken) = broken_at(&self.placement, id, place, around.padding) {
+        if let Some(broken) = broken_at(&self.placement, id, place, context.padding) {
             return Ok(Reply::Refused(Refusal::Illegal {
                 rule: broken.rule,
                 cell: id.own,
                 other: broken.other,
             }));
         }
-        let revision = self.change_place(around.alloc, session, id, Some(*place))?;
+        let revision = self.change_place(context.alloc, session, id, Some(*place))?;
         Ok(Reply::Revision(revision))
     }
 
@@ -107,28 +107,28 @@ impl Tables {
     #[tactic(auto, unfolding(lf_floor_model::specs::Changes::legalized))]
     pub(crate) fn legalize<S: Seeker>(
         &mut self,
-        around: &TeamContext<'_, S>,
+        context: &TeamContext<'_, S>,
         session: u32,
         name: &[u8],
         target: &Point,
     ) -> Result<Reply, AllocError>
-        requires change { CanChange around.now.number session self.old }
+        requires change { CanChange context.now.number session self.old }
         ensures ok { (l : Legalizer) → IfOk result (λ reply. IsOutcome
-            (legalized (context_in l around.now self.old) session name.now target.now (team_in around.now self.old))
-            reply (team_in around.now self.new)) }
+            (legalized (context_in l context.now self.old) session name.now target.now (team_in context.now self.old))
+            reply (team_in context.now self.new)) }
         ensures err { (l : Legalizer) → OnErr result (IsOutOfMemory
-            (legalized (context_in l around.now self.old) session name.now target.now (team_in around.now self.old))
-            (team_in around.now self.old) (team_in around.now self.new)) }
-        ensures others { KeepsOtherTeams around.now.number self.old self.new }
-        ensures fit { EntriesFit around.now.number self.new }
+            (legalized (context_in l context.now self.old) session name.now target.now (team_in context.now self.old))
+            (team_in context.now self.old) (team_in context.now self.new)) }
+        ensures others { KeepsOtherTeams context.now.number self.old self.new }
+        ensures fit { EntriesFit context.now.number self.new }
     {
-        let Some(id) = self.cell_named(around.number, name) else {
+        let Some(id) = self.cell_named(context.number, name) else {
             return Ok(Reply::Refused(Refusal::NoCell));
         };
-        let Some(place) = best_place(around, &self.placement, id, target)? else {
+        let Some(place) = best_place(context, &self.placement, id, target)? else {
             return Ok(Reply::Refused(Refusal::NoPlace { cell: id.own }));
         };
-        let revision = self.change_place(around.alloc, session, id, Some(place))?;
+        let revision = self.change_place(context.alloc, session, id, Some(place))?;
         Ok(Reply::Legalized { revision, place })
     }
 
@@ -139,27 +139,27 @@ impl Tables {
     #[tactic(auto, unfolding(lf_floor_model::specs::Changes::unplaced))]
     pub(crate) fn unplace<S>(
         &mut self,
-        around: &TeamContext<'_, S>,
+        context: &TeamContext<'_, S>,
         session: u32,
         name: &[u8],
     ) -> Result<Reply, AllocError>
-        requires { CanChange around.now.number session self.old }
+        requires { CanChange context.now.number session self.old }
         ensures ok { IfOk result (λ reply. IsOutcome
-            (unplaced (frame_of self.old).limits session name.now (team_in around.now self.old))
-            reply (team_in around.now self.new)) }
+            (unplaced (frame_of self.old).limits session name.now (team_in context.now self.old))
+            reply (team_in context.now self.new)) }
         ensures err { OnErr result (IsOutOfMemory
-            (unplaced (frame_of self.old).limits session name.now (team_in around.now self.old))
-            (team_in around.now self.old) (team_in around.now self.new)) }
-        ensures others { KeepsOtherTeams around.now.number self.old self.new }
-        ensures fit { EntriesFit around.now.number self.new }
+            (unplaced (frame_of self.old).limits session name.now (team_in context.now self.old))
+            (team_in context.now self.old) (team_in context.now self.new)) }
+        ensures others { KeepsOtherTeams context.now.number self.old self.new }
+        ensures fit { EntriesFit context.now.number self.new }
     {
-        let Some(id) = self.cell_named(around.number, name) else {
+        let Some(id) = self.cell_named(context.number, name) else {
             return Ok(Reply::Refused(Refusal::NoCell));
         };
         if self.working(id).is_none() {
             return Ok(Reply::Refused(Refusal::Unplaced { cell: id.own }));
         }
-        let revision = self.change_place(around.alloc, session, id, None)?;
+        let revision = self.change_place(context.alloc, session, id, None)?;
         Ok(Reply::Revision(revision))
     }
 }

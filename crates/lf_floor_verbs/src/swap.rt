@@ -162,19 +162,19 @@ impl Tables {
     /// `Err` if an allocation fails; then the team is unchanged.
     fn swap_placed<S>(
         &mut self,
-        around: &TeamContext<'_, S>,
+        context: &TeamContext<'_, S>,
         session: u32,
         exchange: &Exchange,
     ) -> Result<Reply, AllocError>
-        requires change { CanChange around.now.number session self.old }
-        requires are { IsExchange around.now.number (table_cells around.now.number self.old) exchange.now }
+        requires change { CanChange context.now.number session self.old }
+        requires are { IsExchange context.now.number (table_cells context.now.number self.old) exchange.now }
         ensures ok { (l : Legalizer) → IfOk result (λ reply. IsOutcome
-            (swapped_here (context_in l around.now self.old) session exchange.now.first.own exchange.now.second.own
-            (team_in around.now self.old))
-            reply (team_in around.now self.new)) }
-        ensures err { OnErr result (team_in around.now self.new ≡ team_in around.now self.old) }
-        ensures others { KeepsOtherTeams around.now.number self.old self.new }
-        ensures fit { EntriesFit around.now.number self.new }
+            (swapped_here (context_in l context.now self.old) session exchange.now.first.own exchange.now.second.own
+            (team_in context.now self.old))
+            reply (team_in context.now self.new)) }
+        ensures err { OnErr result (team_in context.now self.new ≡ team_in context.now self.old) }
+        ensures others { KeepsOtherTeams context.now.number self.old self.new }
+        ensures fit { EntriesFit context.now.number self.new }
     {
         let Exchange {
             first,
@@ -193,9 +193,9 @@ impl Tables {
             }));
         }
         let alone = self.placement.broken_frame_rule(second, &from);
-        let moves = exchange_moves(around.alloc, exchange)?;
-        self.make_room_for(around.alloc, around.number, moves.as_slice())?;
-        Ok(self.exchange(session, exchange, moves, alone, around.padding))
+        let moves = exchange_moves(context.alloc, exchange)?;
+        self.reserve_moves(context.alloc, context.number, moves.as_slice())?;
+        Ok(self.exchange(session, exchange, moves, alone, context.padding))
     }
 
     /// Exchanges the places of two cells. For each of these reasons the first cell is tested first.
@@ -208,25 +208,25 @@ impl Tables {
     #[tactic(auto, unfolding(lf_floor_model::specs::Changes::swapped))]
     pub(crate) fn swap<S>(
         &mut self,
-        around: &TeamContext<'_, S>,
+        context: &TeamContext<'_, S>,
         session: u32,
         first: &[u8],
         second: &[u8],
     ) -> Result<Reply, AllocError>
-        requires change { CanChange around.now.number session self.old }
+        requires change { CanChange context.now.number session self.old }
         ensures ok { (l : Legalizer) → IfOk result (λ reply. IsOutcome
-            (swapped (context_in l around.now self.old) session first.now second.now (team_in around.now self.old))
-            reply (team_in around.now self.new)) }
+            (swapped (context_in l context.now self.old) session first.now second.now (team_in context.now self.old))
+            reply (team_in context.now self.new)) }
         ensures err { (l : Legalizer) → OnErr result (IsOutOfMemory
-            (swapped (context_in l around.now self.old) session first.now second.now (team_in around.now self.old))
-            (team_in around.now self.old) (team_in around.now self.new)) }
-        ensures others { KeepsOtherTeams around.now.number self.old self.new }
-        ensures fit { EntriesFit around.now.number self.new }
+            (swapped (context_in l context.now self.old) session first.now second.now (team_in context.now self.old))
+            (team_in context.now self.old) (team_in context.now self.new)) }
+        ensures others { KeepsOtherTeams context.now.number self.old self.new }
+        ensures fit { EntriesFit context.now.number self.new }
     {
-        let Some(first) = self.cell_named(around.number, first) else {
+        let Some(first) = self.cell_named(context.number, first) else {
             return Ok(Reply::Refused(Refusal::NoCell));
         };
-        let Some(second) = self.cell_named(around.number, second) else {
+        let Some(second) = self.cell_named(context.number, second) else {
             return Ok(Reply::Refused(Refusal::NoCell));
         };
         let Some(from) = self.working(first) else {
@@ -241,6 +241,6 @@ impl Tables {
             from,
             to,
         };
-        self.swap_placed(around, session, &exchange)
+        self.swap_placed(context, session, &exchange)
     }
 }

@@ -68,24 +68,24 @@ fn is_legal_apart(placement: &Placement, id: CellId, padding: Padding) -> bool
 /// Marks the team's cell at that position, which overlaps no other cell of the team, if it is
 /// placed and breaks no rule at its working place.
 fn mark_legal_apart<S>(
-    around: &TeamContext<'_, S>,
+    context: &TeamContext<'_, S>,
     tables: &Tables,
     own: usize,
     marks: &mut Vec<bool>,
 )
-    requires { OverlapsNoCell tables.now.placement around.now.padding.sites (id_of around.now.number own) }
-    ensures { AreMarked (frame_of tables.now) around.now.number around.now.padding.sites
-        (table_cells around.now.number tables.now) marks.old.items
-        → AreMarked (frame_of tables.now) around.now.number around.now.padding.sites
-        (table_cells around.now.number tables.now) marks.new.items }
+    requires { OverlapsNoCell tables.now.placement context.now.padding.sites (id_of context.now.number own) }
+    ensures { AreMarked (frame_of tables.now) context.now.number context.now.padding.sites
+        (table_cells context.now.number tables.now) marks.old.items
+        → AreMarked (frame_of tables.now) context.now.number context.now.padding.sites
+        (table_cells context.now.number tables.now) marks.new.items }
 {
-    let Some(id) = tables.cell_at(around.number, own) else {
+    let Some(id) = tables.cell_at(context.number, own) else {
         return;
     };
     if own >= marks.len() {
         return;
     }
-    if !is_legal_apart(&tables.placement, id, around.padding) {
+    if !is_legal_apart(&tables.placement, id, context.padding) {
         return;
     }
     mark(marks, own);
@@ -96,21 +96,21 @@ fn mark_legal_apart<S>(
 ///
 /// `Err` if an allocation fails.
 fn mark_row<S>(
-    around: &TeamContext<'_, S>,
+    context: &TeamContext<'_, S>,
     tables: &Tables,
     row: usize,
     marks: &mut Vec<bool>,
 ) -> Result<(), AllocError>
-    ensures { AreMarked (frame_of tables.now) around.now.number around.now.padding.sites
-        (table_cells around.now.number tables.now) marks.old.items
-        → AreMarked (frame_of tables.now) around.now.number around.now.padding.sites
-        (table_cells around.now.number tables.now) marks.new.items }
+    ensures { AreMarked (frame_of tables.now) context.now.number context.now.padding.sites
+        (table_cells context.now.number tables.now) marks.old.items
+        → AreMarked (frame_of tables.now) context.now.number context.now.padding.sites
+        (table_cells context.now.number tables.now) marks.new.items }
 {
     let apart = tables
         .placement
-        .apart_in_row(around.alloc, row, around.number, around.padding)?;
+        .apart_in_row(context.alloc, row, context.number, context.padding)?;
     for own in &apart {
-        mark_legal_apart(around, tables, *own as usize, marks);
+        mark_legal_apart(context, tables, *own as usize, marks);
     }
     Ok(())
 }
@@ -118,40 +118,40 @@ fn mark_row<S>(
 /// Marks cells of the team that are team-legal, row by row, as `mark_row` does. A team with no more
 /// cells than the frame has rows is left to the tests of single cells.
 fn mark_rows<S>(
-    around: &TeamContext<'_, S>,
+    context: &TeamContext<'_, S>,
     tables: &Tables,
     marks: &mut Vec<bool>,
 ) -> Result<(), AllocError>
-    ensures { AreMarked (frame_of tables.now) around.now.number around.now.padding.sites
-        (table_cells around.now.number tables.now) marks.old.items
-        → AreMarked (frame_of tables.now) around.now.number around.now.padding.sites
-        (table_cells around.now.number tables.now) marks.new.items }
+    ensures { AreMarked (frame_of tables.now) context.now.number context.now.padding.sites
+        (table_cells context.now.number tables.now) marks.old.items
+        → AreMarked (frame_of tables.now) context.now.number context.now.padding.sites
+        (table_cells context.now.number tables.now) marks.new.items }
 {
     let rows = tables.placement.frame().rows.len();
     if marks.len() <= rows {
         return Ok(());
     }
     for row in 0..rows {
-        mark_row(around, tables, row, marks)?;
+        mark_row(context, tables, row, marks)?;
     }
     Ok(())
 }
 
 /// Marks the team's cell at that position if it is placed and breaks no rule at its working place.
 /// Does not test a cell whose mark is set.
-fn mark_legal<S>(around: &TeamContext<'_, S>, tables: &Tables, own: usize, marks: &mut Vec<bool>)
-    ensures { AreMarked (frame_of tables.now) around.now.number around.now.padding.sites
-        (table_cells around.now.number tables.now) marks.old.items
-        → AreMarked (frame_of tables.now) around.now.number around.now.padding.sites
-        (table_cells around.now.number tables.now) marks.new.items }
+fn mark_legal<S>(context: &TeamContext<'_, S>, tables: &Tables, own: usize, marks: &mut Vec<bool>)
+    ensures { AreMarked (frame_of tables.now) context.now.number context.now.padding.sites
+        (table_cells context.now.number tables.now) marks.old.items
+        → AreMarked (frame_of tables.now) context.now.number context.now.padding.sites
+        (table_cells context.now.number tables.now) marks.new.items }
 {
-    let Some(id) = tables.cell_at(around.number, own) else {
+    let Some(id) = tables.cell_at(context.number, own) else {
         return;
     };
     if own >= marks.len() || is_marked(marks.as_slice(), own) {
         return;
     }
-    if !is_cell_legal(&tables.placement, id, around.padding) {
+    if !is_cell_legal(&tables.placement, id, context.padding) {
         return;
     }
     mark(marks, own);
@@ -163,17 +163,17 @@ fn mark_legal<S>(around: &TeamContext<'_, S>, tables: &Tables, own: usize, marks
 ///
 /// `Err` if an allocation fails.
 pub(crate) fn legal_marks<S>(
-    around: &TeamContext<'_, S>,
+    context: &TeamContext<'_, S>,
     tables: &Tables,
 ) -> Result<Vec<bool>, AllocError>
-    ensures { IfOk result (λ marks. AreMarked (frame_of tables.now) around.now.number around.now.padding.sites
-        (table_cells around.now.number tables.now) marks.items) }
+    ensures { IfOk result (λ marks. AreMarked (frame_of tables.now) context.now.number context.now.padding.sites
+        (table_cells context.now.number tables.now) marks.items) }
 {
-    let ids = tables.placement.cells().cells_of(around.number);
-    let mut marks = vec![in around.alloc; false; ids.len()]?;
-    mark_rows(around, tables, &mut marks)?;
+    let ids = tables.placement.cells().cells_of(context.number);
+    let mut marks = vec![in context.alloc; false; ids.len()]?;
+    mark_rows(context, tables, &mut marks)?;
     for own in 0..ids.len() {
-        mark_legal(around, tables, own, &mut marks);
+        mark_legal(context, tables, own, &mut marks);
     }
     Ok(marks)
 }
@@ -238,12 +238,12 @@ fn first_broken(
 ///
 /// `Err` if an allocation fails.
 pub(crate) fn first_broken_cell<S>(
-    around: &TeamContext<'_, S>,
+    context: &TeamContext<'_, S>,
     tables: &Tables,
 ) -> Result<Option<BrokenCell>, AllocError>
     ensures { (l : Legalizer) → IfOk result (λ first. first ≡ slice_get
-        (broken_cells (context_in l around.now tables.now) (table_cells around.now.number tables.now)) 0) }
+        (broken_cells (context_in l context.now tables.now) (table_cells context.now.number tables.now)) 0) }
 {
-    let marks = legal_marks(around, tables)?;
-    Ok(first_broken(&tables.placement, around.number, &marks, around.padding))
+    let marks = legal_marks(context, tables)?;
+    Ok(first_broken(&tables.placement, context.number, &marks, context.padding))
 }

@@ -106,27 +106,27 @@ fn move_one(
 ///
 /// `Err` if an allocation fails.
 fn tidy_cell<S: Seeker>(
-    around: &TeamContext<'_, S>,
+    context: &TeamContext<'_, S>,
     placement: &mut Placement,
     moves: &mut Moves,
     marks: &[bool],
     id: CellId,
 ) -> Result<TidyStep, AllocError>
-    requires team { id.team ≡ around.now.number }
-    requires marked { AreMarked placement.old.frame around.now.number around.now.padding.sites
-        (cells_of placement.old.cells around.now.number) marks.now }
-    ensures ok { (l : Legalizer) → IfOk result (λ sent. TidiesOneCell (context_at l around.now placement.old) id.own
-        (cells_of placement.old.cells around.now.number) (cells_of placement.new.cells around.now.number) sent) }
-    ensures moved { (before : List Cell) → HaveMoved before moves.old (cells_of placement.old.cells around.now.number) →
-        HaveMoved before moves.new (cells_of placement.new.cells around.now.number) }
-    ensures only { OnlyMovesTeam around.now.number placement.old placement.new }
+    requires team { id.team ≡ context.now.number }
+    requires marked { AreMarked placement.old.frame context.now.number context.now.padding.sites
+        (cells_of placement.old.cells context.now.number) marks.now }
+    ensures ok { (l : Legalizer) → IfOk result (λ sent. TidiesOneCell (context_at l context.now placement.old) id.own
+        (cells_of placement.old.cells context.now.number) (cells_of placement.new.cells context.now.number) sent) }
+    ensures moved { (before : List Cell) → HaveMoved before moves.old (cells_of placement.old.cells context.now.number) →
+        HaveMoved before moves.new (cells_of placement.new.cells context.now.number) }
+    ensures only { OnlyMovesTeam context.now.number placement.old placement.new }
 {
-    let Some(target) = target_of(placement, marks, id, around.padding) else {
+    let Some(target) = target_of(placement, marks, id, context.padding) else {
         return Ok(TidyStep::Stays);
     };
-    match best_place(around, placement, id, &target)? {
+    match best_place(context, placement, id, &target)? {
         Some(place) => {
-            move_one(around.alloc, placement, moves, id, Some(place))?;
+            move_one(context.alloc, placement, moves, id, Some(place))?;
             Ok(TidyStep::Goes)
         }
         None => Ok(TidyStep::Nowhere),
@@ -140,26 +140,26 @@ fn tidy_cell<S: Seeker>(
 ///
 /// `Err` if an allocation fails.
 fn tidy_cells<S: Seeker>(
-    around: &TeamContext<'_, S>,
+    context: &TeamContext<'_, S>,
     placement: &mut Placement,
     moves: &mut Moves,
     marks: &[bool],
 ) -> Result<Tidy, AllocError>
-    requires marked { AreMarked placement.old.frame around.now.number around.now.padding.sites
-        (cells_of placement.old.cells around.now.number) marks.now }
-    ensures ok { (l : Legalizer) → IfOk result (λ tidy. TidiesCells (context_at l around.now placement.old)
-        (cells_of placement.old.cells around.now.number) (cells_of placement.new.cells around.now.number) tidy) }
-    ensures moved { (before : List Cell) → HaveMoved before moves.old (cells_of placement.old.cells around.now.number) →
-        HaveMoved before moves.new (cells_of placement.new.cells around.now.number) }
-    ensures only { OnlyMovesTeam around.now.number placement.old placement.new }
+    requires marked { AreMarked placement.old.frame context.now.number context.now.padding.sites
+        (cells_of placement.old.cells context.now.number) marks.now }
+    ensures ok { (l : Legalizer) → IfOk result (λ tidy. TidiesCells (context_at l context.now placement.old)
+        (cells_of placement.old.cells context.now.number) (cells_of placement.new.cells context.now.number) tidy) }
+    ensures moved { (before : List Cell) → HaveMoved before moves.old (cells_of placement.old.cells context.now.number) →
+        HaveMoved before moves.new (cells_of placement.new.cells context.now.number) }
+    ensures only { OnlyMovesTeam context.now.number placement.old placement.new }
 {
     legalizer_exists();
     tidy_keeps_legal();
     let mut moved = 0;
-    for own in 0..placement.cells().cells_of(around.number).len() {
+    for own in 0..placement.cells().cells_of(context.number).len() {
         placement.cells_are_sized();
-        let id = placement.cells().cells_of(around.number)[own];
-        match tidy_cell(around, placement, moves, marks, id)? {
+        let id = placement.cells().cells_of(context.number)[own];
+        match tidy_cell(context, placement, moves, marks, id)? {
             TidyStep::Stays => {}
             TidyStep::Goes => moved += 1,
             TidyStep::Nowhere => return Ok(Tidy::Stopped(id.own)),
@@ -186,34 +186,34 @@ impl Tables {
     /// `Err` if an allocation fails; then the team is unchanged.
     pub(crate) fn tidy<S: Seeker>(
         &mut self,
-        around: &TeamContext<'_, S>,
+        context: &TeamContext<'_, S>,
         session: u32,
     ) -> Result<Reply, AllocError>
-        requires change { CanChange around.now.number session self.old }
+        requires change { CanChange context.now.number session self.old }
         ensures ok { (l : Legalizer) → IfOk result (λ reply. IsOutcome
-            (tidied_team (context_in l around.now self.old) session (team_in around.now self.old))
-            reply (team_in around.now self.new)) }
+            (tidied_team (context_in l context.now self.old) session (team_in context.now self.old))
+            reply (team_in context.now self.new)) }
         ensures err { (l : Legalizer) → OnErr result (IsOutOfMemory
-            (tidied_team (context_in l around.now self.old) session (team_in around.now self.old))
-            (team_in around.now self.old) (team_in around.now self.new)) }
-        ensures others { KeepsOtherTeams around.now.number self.old self.new }
-        ensures fit { EntriesFit around.now.number self.new }
+            (tidied_team (context_in l context.now self.old) session (team_in context.now self.old))
+            (team_in context.now self.old) (team_in context.now self.new)) }
+        ensures others { KeepsOtherTeams context.now.number self.old self.new }
+        ensures fit { EntriesFit context.now.number self.new }
     {
-        let marks = legal_marks(around, self)?;
-        let mut moves = moves_for(around.alloc, &marks)?;
-        self.make_room(around.number)?;
+        let marks = legal_marks(context, self)?;
+        let mut moves = moves_for(context.alloc, &marks)?;
+        self.reserve_entry(context.number)?;
         self.placement.boxes_match_places();
-        match tidy_cells(around, &mut self.placement, &mut moves, &marks) {
+        match tidy_cells(context, &mut self.placement, &mut moves, &marks) {
             Ok(Tidy::Done(moved)) => {
-                let revision = self.push_undo(around.number, session, moves);
+                let revision = self.push_undo(context.number, session, moves);
                 Ok(Reply::Tidied { revision, moved })
             }
             Ok(Tidy::Stopped(cell)) => {
-                self.placement.undo_moves(around.number, &moves);
+                self.placement.undo_moves(context.number, &moves);
                 Ok(Reply::Refused(Refusal::NoPlace { cell }))
             }
             Err(error) => {
-                self.placement.undo_moves(around.number, &moves);
+                self.placement.undo_moves(context.number, &moves);
                 Err(error)
             }
         }

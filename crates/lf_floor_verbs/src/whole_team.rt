@@ -54,23 +54,23 @@ impl Tables {
     /// `Err` if an allocation fails; then the team is unchanged.
     pub(crate) fn revert<S>(
         &mut self,
-        around: &TeamContext<'_, S>,
+        context: &TeamContext<'_, S>,
         session: u32,
     ) -> Result<Reply, AllocError>
-        requires { CanChange around.now.number session self.old }
+        requires { CanChange context.now.number session self.old }
         ensures ok { (l : Legalizer) → IfOk result (λ reply. IsOutcome
-            (reverted (context_in l around.now self.old) session (team_in around.now self.old)) reply
-            (team_in around.now self.new)) }
+            (reverted (context_in l context.now self.old) session (team_in context.now self.old)) reply
+            (team_in context.now self.new)) }
         ensures err { (l : Legalizer) → OnErr result (IsOutOfMemory
-            (reverted (context_in l around.now self.old) session (team_in around.now self.old))
-            (team_in around.now self.old) (team_in around.now self.new)) }
-        ensures others { KeepsOtherTeams around.now.number self.old self.new }
-        ensures fit { EntriesFit around.now.number self.new }
+            (reverted (context_in l context.now self.old) session (team_in context.now self.old))
+            (team_in context.now self.old) (team_in context.now self.new)) }
+        ensures others { KeepsOtherTeams context.now.number self.old self.new }
+        ensures fit { EntriesFit context.now.number self.new }
     {
         self.placement.committed_fit();
-        let moves = revert_moves(around.alloc, self.placement.cells(), around.number)?;
-        self.make_room(around.number)?;
-        Ok(Reply::Revision(self.change_places(around.number, session, moves)))
+        let moves = revert_moves(context.alloc, self.placement.cells(), context.number)?;
+        self.reserve_entry(context.number)?;
+        Ok(Reply::Revision(self.change_places(context.number, session, moves)))
     }
 
     /// Reverts the moves of the team's newest undo entry, unchecked, and removes the entry. Refuses
@@ -98,31 +98,31 @@ impl Tables {
     /// `Err` if an allocation fails; then the team is unchanged.
     pub(crate) fn commit<S>(
         &mut self,
-        around: &TeamContext<'_, S>,
+        context: &TeamContext<'_, S>,
         session: u32,
     ) -> Result<Reply, AllocError>
-        requires change { CanChange around.now.number session self.old }
+        requires change { CanChange context.now.number session self.old }
         ensures ok { (l : Legalizer) → IfOk result (λ reply. IsOutcome
-            (committed (context_in l around.now self.old) session (team_in around.now self.old)) reply
-            (team_in around.now self.new)) }
+            (committed (context_in l context.now self.old) session (team_in context.now self.old)) reply
+            (team_in context.now self.new)) }
         ensures err { (l : Legalizer) → OnErr result (IsOutOfMemory
-            (committed (context_in l around.now self.old) session (team_in around.now self.old))
-            (team_in around.now self.old) (team_in around.now self.new)) }
-        ensures others { KeepsOtherTeams around.now.number self.old self.new }
-        ensures fit { EntriesFit around.now.number self.new }
+            (committed (context_in l context.now self.old) session (team_in context.now self.old))
+            (team_in context.now self.old) (team_in context.now self.new)) }
+        ensures others { KeepsOtherTeams context.now.number self.old self.new }
+        ensures fit { EntriesFit context.now.number self.new }
     {
-        if let Some(cell) = first_unplaced(self.placement.cells(), around.number) {
+        if let Some(cell) = first_unplaced(self.placement.cells(), context.number) {
             return Ok(Reply::Refused(Refusal::Unplaced { cell }));
         }
-        if let Some(illegal) = first_broken_cell(around, self)? {
+        if let Some(illegal) = first_broken_cell(context, self)? {
             return Ok(Reply::Refused(Refusal::Illegal {
                 rule: illegal.broken.rule,
                 cell: illegal.own,
                 other: illegal.broken.other,
             }));
         }
-        self.placement.commit_team(around.number);
-        Ok(Reply::Revision(self.count_change(around.number, session)))
+        self.placement.commit_team(context.number);
+        Ok(Reply::Revision(self.count_change(context.number, session)))
     }
 
     /// Sets the team's padding, wherever its cells are placed. Moves and tests no cell, and does

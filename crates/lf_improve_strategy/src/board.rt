@@ -48,12 +48,12 @@ impl<'a> Board<'a> {
     /// The board with all cells that are on free sites. `Err` if an allocation fails.
     pub fn new(
         alloc: Global,
-        land: &FreeRows,
+        free_rows: &FreeRows,
         cells: &'a [ImprovableCell],
         within: Option<u64>,
         bins: Option<Bins>,
     ) -> Result<Board<'a>, AllocError> {
-        let runs = SiteRuns::new(alloc, land)?;
+        let runs = SiteRuns::new(alloc, free_rows)?;
         let height = runs.height();
         let sites = vec![in alloc; FREE; runs.sites]?;
         let mut board = Board {

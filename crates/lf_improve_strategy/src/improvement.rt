@@ -22,12 +22,12 @@ pub struct WireNets<'a> {
 /// Appends the move of the team's cell at position `own` to this place.
 fn push_move(
     placement: &Placement,
-    owner: &PaddedTeam,
+    team: &PaddedTeam,
     own: u32,
     to: &CellPlace,
     moves: &mut MoveList,
 ) -> Result<(), AllocError> {
-    let Some(id) = placement.cells().cell_of(owner.team, own as usize) else {
+    let Some(id) = placement.cells().cell_of(team.team, own as usize) else {
         return Ok(());
     };
     moves.push(&CellMove {
@@ -42,15 +42,15 @@ fn push_move(
 fn edits_to(
     alloc: Global,
     placement: &Placement,
-    owner: &PaddedTeam,
+    team: &PaddedTeam,
     movable: &MovableCells,
     places: &[Option<CellPlace>],
 ) -> Result<Vec<CellEdit>, AllocError> {
-    let bands = bands_of(placement.frame(), owner, &movable.land);
+    let bands = bands_of(placement.frame(), team, &movable.free_rows);
     let mut moves = MoveList::with_capacity(alloc, bands, places.len())?;
     for (own, place) in movable.owns.iter().zip(places.iter()) {
         if let Some(to) = place {
-            push_move(placement, owner, *own, to, &mut moves)?;
+            push_move(placement, team, *own, to, &mut moves)?;
         }
     }
     with_moves(alloc, &[], moves)
@@ -66,21 +66,29 @@ fn edits_to(
 pub fn improvement_edits(
     alloc: Global,
     placement: &Placement,
-    owner: &PaddedTeam,
+    team: &PaddedTeam,
     wires: &WireNets<'_>,
     options: &ImproveOptions,
     search: &ImproveSearch,
 ) -> Result<Vec<CellEdit>, AllocError> {
-    let movable = movable_cells(alloc, placement, owner)?;
+    let movable = movable_cells(alloc, placement, team)?;
     let source = NetSource {
         placement,
         netlist: wires.netlist,
-        team: owner.team,
+        team: team.team,
         movable: &movable,
     };
-    let nets = board_nets(alloc, &source, wires.of_teams.of(owner.team))?;
+    let nets = board_nets(alloc, &source, wires.of_teams.of(team.team))?;
     let cells = movable.cells.as_slice();
     let bins = bins_below(alloc, placement, search.density)?;
-    let places = improved_places(alloc, &movable.land, cells, &nets, options, search, bins)?;
-    edits_to(alloc, placement, owner, &movable, places.as_slice())
+    let places = improved_places(
+        alloc,
+        &movable.free_rows,
+        cells,
+        &nets,
+        options,
+        search,
+        bins,
+    )?;
+    edits_to(alloc, placement, team, &movable, places.as_slice())
 }

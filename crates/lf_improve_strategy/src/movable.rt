@@ -15,7 +15,7 @@ const NONE: u32 = 4_294_967_295;
 /// The cells of a team that may move, and the free sites if all of these were unplaced.
 #[derive(Drop)]
 pub(crate) struct MovableCells {
-    pub(crate) land: FreeRows,
+    pub(crate) free_rows: FreeRows,
     pub(crate) cells: Vec<ImprovableCell>,
     /// The position in the team of each of the cells.
     pub(crate) owns: Vec<u32>,
@@ -68,7 +68,7 @@ fn orientations_of(frame: &Frame, mac: &Macro) -> RowOrientations {
 
 /// The cell as one that may move. `None` if it is unplaced, is not one row high, or has an
 /// orientation that no row has.
-fn cell_of(placement: &Placement, owner: &PaddedTeam, id: CellId) -> Option<ImprovableCell> {
+fn cell_of(placement: &Placement, team: &PaddedTeam, id: CellId) -> Option<ImprovableCell> {
     let frame = placement.frame();
     let place = placement.cells().working(id)?;
     let mac = frame
@@ -78,7 +78,7 @@ fn cell_of(placement: &Placement, owner: &PaddedTeam, id: CellId) -> Option<Impr
     if mac.size.y != frame.site.size.y {
         return None;
     }
-    let width = width_of(placement, id).saturating_add(owner.padding());
+    let width = width_of(placement, id).saturating_add(team.padding());
     Some(ImprovableCell {
         place: CellPlace {
             x: place.x,
@@ -99,14 +99,14 @@ fn is_on_span(span: &FreeSpan, x: i32, width: u32) -> bool {
 }
 
 /// Whether the cell is on free sites.
-fn is_on_sites(land: &FreeRows, cell: &ImprovableCell) -> bool {
+fn is_on_sites(free_rows: &FreeRows, cell: &ImprovableCell) -> bool {
     let place = &cell.place;
-    let first = land.rows.partition_point(|row| row.y < place.y);
-    for row in land.rows.get(first..).unwrap_or(&[]) {
+    let first = free_rows.rows.partition_point(|row| row.y < place.y);
+    for row in free_rows.rows.get(first..).unwrap_or(&[]) {
         if row.y != place.y {
             return false;
         }
-        let spans = land.spans.get(row.first..row.last).unwrap_or(&[]);
+        let spans = free_rows.spans.get(row.first..row.last).unwrap_or(&[]);
         let at = spans.partition_point(|span| span.first <= place.x);
         if let Some(span) = spans.get(at.saturating_sub(1)) {
             if is_on_span(span, place.x, cell.width) {
@@ -121,12 +121,12 @@ fn is_on_sites(land: &FreeRows, cell: &ImprovableCell) -> bool {
 fn low_cells(
     alloc: Global,
     placement: &Placement,
-    owner: &PaddedTeam,
+    team: &PaddedTeam,
 ) -> Result<Vec<bool>, AllocError> {
-    let ids = placement.cells().cells_of(owner.team);
+    let ids = placement.cells().cells_of(team.team);
     let mut loose = Vec::with_capacity(alloc, ids.len())?;
     for id in ids {
-        loose.push(cell_of(placement, owner, *id).is_some())?;
+        loose.push(cell_of(placement, team, *id).is_some())?;
     }
     Ok(loose)
 }
@@ -134,17 +134,17 @@ fn low_cells(
 /// Clears the entries of the cells that are not on these sites. Returns whether there are any.
 fn clear_others(
     placement: &Placement,
-    owner: &PaddedTeam,
-    land: &FreeRows,
+    team: &PaddedTeam,
+    free_rows: &FreeRows,
     loose: &mut [bool],
 ) -> bool {
     let mut is_cleared = false;
-    for id in placement.cells().cells_of(owner.team) {
-        let Some(cell) = cell_of(placement, owner, *id) else {
+    for id in placement.cells().cells_of(team.team) {
+        let Some(cell) = cell_of(placement, team, *id) else {
             continue;
         };
         if let Some(is_loose) = loose.get_mut(id.own as usize) {
-            if !is_on_sites(land, &cell) {
+            if !is_on_sites(free_rows, &cell) {
                 *is_loose = false;
                 is_cleared = true;
             }
@@ -165,16 +165,16 @@ fn is_loose(loose: &[bool], own: u32) -> bool {
 fn listed_cells(
     alloc: Global,
     placement: &Placement,
-    owner: &PaddedTeam,
-    land: FreeRows,
+    team: &PaddedTeam,
+    free_rows: FreeRows,
     loose: &[bool],
 ) -> Result<MovableCells, AllocError> {
-    let ids = placement.cells().cells_of(owner.team);
+    let ids = placement.cells().cells_of(team.team);
     let mut cells = Vec::new(alloc);
     let mut owns = Vec::new(alloc);
     let mut positions = Vec::with_capacity(alloc, ids.len())?;
     for id in ids {
-        let found = cell_of(placement, owner, *id);
+        let found = cell_of(placement, team, *id);
         if let (Some(cell), true) = (found, is_loose(loose, id.own)) {
             positions.push(cells.len().min(4_294_967_295) as u32)?;
             cells.push(cell)?;
@@ -184,7 +184,7 @@ fn listed_cells(
         }
     }
     Ok(MovableCells {
-        land,
+        free_rows,
         cells,
         owns,
         positions,
@@ -195,14 +195,14 @@ fn listed_cells(
 pub(crate) fn movable_cells(
     alloc: Global,
     placement: &Placement,
-    owner: &PaddedTeam,
+    team: &PaddedTeam,
 ) -> Result<MovableCells, AllocError> {
-    let mut loose = low_cells(alloc, placement, owner)?;
-    let mut land = free_rows_without(alloc, placement, owner, loose.as_slice())?;
-    if clear_others(placement, owner, &land, loose.as_mut_slice()) {
-        land = free_rows_without(alloc, placement, owner, loose.as_slice())?;
+    let mut loose = low_cells(alloc, placement, team)?;
+    let mut land = free_rows_without(alloc, placement, team, loose.as_slice())?;
+    if clear_others(placement, team, &land, loose.as_mut_slice()) {
+        land = free_rows_without(alloc, placement, team, loose.as_slice())?;
     }
-    listed_cells(alloc, placement, owner, land, loose.as_slice())
+    listed_cells(alloc, placement, team, land, loose.as_slice())
 }
 
 /// The place of a cell that has moved.

@@ -137,14 +137,14 @@ fn changed_places(alloc: Global, board: &Board) -> Result<Vec<Option<CellPlace>>
 /// free for others. `Err` if an allocation fails.
 pub fn improved_places(
     alloc: Global,
-    land: &FreeRows,
+    free_rows: &FreeRows,
     cells: &[ImprovableCell],
     nets: &BoardNets,
     options: &ImproveOptions,
     search: &ImproveSearch,
     bins: Option<Bins>,
 ) -> Result<Vec<Option<CellPlace>>, AllocError> {
-    let mut board = Board::new(alloc, land, cells, options.within, bins)?;
+    let mut board = Board::new(alloc, free_rows, cells, options.within, bins)?;
     let mut wires = Wires::new(alloc, nets, &board)?;
     let mut lists = RoundLists {
         keys: Vec::new(alloc),

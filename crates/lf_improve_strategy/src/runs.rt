@@ -108,12 +108,12 @@ struct RunKey {
 /// The keys of the spans of a row.
 fn push_keys(
     keys: &mut Vec<RunKey>,
-    land: &FreeRows,
+    free_rows: &FreeRows,
     number: usize,
     row: &PlannerRow,
 ) -> Result<(), AllocError> {
-    for span in row.first..row.last.min(land.spans.len()) {
-        if let Some(sites) = land.spans.get(span) {
+    for span in row.first..row.last.min(free_rows.spans.len()) {
+        if let Some(sites) = free_rows.spans.get(span) {
             keys.push(RunKey {
                 y: row.y,
                 first: sites.first,
@@ -126,10 +126,10 @@ fn push_keys(
 }
 
 /// The keys of the spans of all rows, in their order.
-fn sorted_keys(alloc: Global, land: &FreeRows) -> Result<Vec<RunKey>, AllocError> {
-    let mut keys = Vec::with_capacity(alloc, land.spans.len())?;
-    for (number, row) in land.rows.iter().enumerate() {
-        push_keys(&mut keys, land, number, row)?;
+fn sorted_keys(alloc: Global, free_rows: &FreeRows) -> Result<Vec<RunKey>, AllocError> {
+    let mut keys = Vec::with_capacity(alloc, free_rows.spans.len())?;
+    for (number, row) in free_rows.rows.iter().enumerate() {
+        push_keys(&mut keys, free_rows, number, row)?;
     }
     keys.sort_unstable();
     Ok(keys)
@@ -137,15 +137,18 @@ fn sorted_keys(alloc: Global, land: &FreeRows) -> Result<Vec<RunKey>, AllocError
 
 impl SiteRuns {
     /// The runs of all rows.
-    pub(crate) fn new(alloc: Global, land: &FreeRows) -> Result<SiteRuns, AllocError> {
-        let keys = sorted_keys(alloc, land)?;
+    pub(crate) fn new(alloc: Global, free_rows: &FreeRows) -> Result<SiteRuns, AllocError> {
+        let keys = sorted_keys(alloc, free_rows)?;
         let mut made = SiteRuns {
             runs: Vec::with_capacity(alloc, keys.len())?,
             levels: Vec::new(alloc),
             sites: 0,
         };
         for key in &keys {
-            if let (Some(row), Some(span)) = (land.rows.get(key.row), land.spans.get(key.span)) {
+            if let (Some(row), Some(span)) = (
+                free_rows.rows.get(key.row),
+                free_rows.spans.get(key.span),
+            ) {
                 made.push(row, span)?;
             }
         }

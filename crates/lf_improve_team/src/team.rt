@@ -56,9 +56,9 @@ pub struct TeamImprovement {
 /// and the length of the team's nets before.
 #[derive(Clone, Copy)]
 struct Attempt<'a> {
-    start: &'a RepairInput,
+    input: &'a RepairInput,
     wires: &'a WireNets<'a>,
-    wish: &'a ImproveWish,
+    goal: &'a ImproveWish,
     search: &'a ImproveSearch,
     /// The length of the team's nets at its start, in half database units.
     part: u64,
@@ -98,12 +98,12 @@ fn team_edits<S: Seeker + Drop>(
     attempt: &Attempt<'_>,
 ) -> Result<Vec<CellEdit>, AllocError> {
     let placement = floor.placement();
-    let owner = PaddedTeam::new(placement.frame(), number, floor.padding_of(number));
-    let options = &attempt.wish.options;
+    let team = PaddedTeam::new(placement.frame(), number, floor.padding_of(number));
+    let options = &attempt.goal.options;
     improvement_edits(
         alloc,
         placement,
-        &owner,
+        &team,
         attempt.wires,
         options,
         attempt.search,
@@ -132,17 +132,17 @@ fn team_stats<S: Seeker + Drop>(
     alloc: Global,
     floor: &Floor<S>,
     number: usize,
-    start: &RepairInput,
+    input: &RepairInput,
 ) -> RepairStats
     ensures lists { (result.changed.items ≡ []) × (result.unrepaired.items ≡ []) }
     ensures tally { (s : TeamState) → slice_get floor.now.teams number ≡ Some s
-        → AreStatsOfFirst start.now.pass.targets.items start.now.legal.items s.cells (length s.cells) result }
+        → AreStatsOfFirst input.now.pass.targets.items input.now.legal.items s.cells (length s.cells) result }
 {
     let found = RepairOutcome {
         changed: Vec::new(alloc),
         left: Vec::new(alloc),
     };
-    stats_of(floor, number, start, found)
+    stats_of(floor, number, input, found)
 }
 
 /// Whether no cell of the team with this number is farther than the limit from its place at the
@@ -151,15 +151,15 @@ fn is_near<S: Seeker + Drop>(
     alloc: Global,
     floor: &Floor<S>,
     number: usize,
-    start: &RepairInput,
+    input: &RepairInput,
     limit: Option<u64>,
 ) -> bool
     ensures { (team : List ℕ) → team_number floor.now.frame team ≡ Some number
-        → IsTrue result → AreCellsNear limit start.now.pass.targets.items team floor.now }
+        → IsTrue result → AreCellsNear limit input.now.pass.targets.items team floor.now }
 {
     match limit {
         None => true,
-        Some(far) => team_stats(alloc, floor, number, start).max_displacement <= far,
+        Some(far) => team_stats(alloc, floor, number, input).max_displacement <= far,
     }
 }
 
@@ -172,13 +172,13 @@ fn better_length<S: Seeker + Drop>(
     attempt: &Attempt<'_>,
 ) -> Option<u64>
     requires decides { DecidesOn attempt.now.wires.now.netlist.now.nets
-        (slice_index_or attempt.now.wires.now.of_teams.now number []) attempt.now.wish.now.length attempt.now.part
+        (slice_index_or attempt.now.wires.now.of_teams.now number []) attempt.now.goal.now.length attempt.now.part
         floor.now }
     ensures measured { IfSome result (λ length.
         IsWireLengthOn attempt.now.wires.now.netlist.now.nets floor.now length) }
-    ensures shorter { IfSome result (λ length. length < attempt.now.wish.now.length) }
+    ensures shorter { IfSome result (λ length. length < attempt.now.goal.now.length) }
     ensures near { (team : List ℕ) → team_number floor.now.frame team ≡ Some number → IfSome result (λ _.
-        AreCellsNear attempt.now.wish.now.options.within attempt.now.start.now.pass.targets.items team floor.now) }
+        AreCellsNear attempt.now.goal.now.options.within attempt.now.input.now.pass.targets.items team floor.now) }
 {
     let part = length_of_team(floor, attempt.wires, number);
     if part >= attempt.part {
@@ -189,12 +189,12 @@ fn better_length<S: Seeker + Drop>(
         alloc,
         floor,
         number,
-        attempt.start,
-        attempt.wish.options.within,
+        attempt.input,
+        attempt.goal.options.within,
     ) {
         return None;
     }
-    Some(attempt.wish.length.saturating_sub(gain))
+    Some(attempt.goal.length.saturating_sub(gain))
 }
 
 /// Commits the team if the wire length is shorter than before, no cell is too far from its place at
@@ -203,34 +203,34 @@ fn better_length<S: Seeker + Drop>(
 fn commit_if_better<S: Seeker + Drop, K: Sink>(
     alloc: Global,
     floor: &mut Floor<S>,
-    seat: &TeamSession<'_>,
+    session: &TeamSession<'_>,
     attempt: &Attempt<'_>,
     lines: &mut K,
 ) -> Result<Option<u64>, RepairFault>
-    requires number { team_number floor.old.frame seat.now.team.now ≡ Some seat.now.number }
-    requires decides { DecidesAfter seat.now.team.now attempt.now.wires.now.netlist.now.nets
-        (slice_index_or attempt.now.wires.now.of_teams.now seat.now.number []) attempt.now.wish.now.length
+    requires number { team_number floor.old.frame session.now.team.now ≡ Some session.now.number }
+    requires decides { DecidesAfter session.now.team.now attempt.now.wires.now.netlist.now.nets
+        (slice_index_or attempt.now.wires.now.of_teams.now session.now.number []) attempt.now.goal.now.length
         attempt.now.part floor.old }
     ensures run { (l : Legalizer) → IfOk result (λ _.
-        IsWrittenRun l seat.now.team.now floor.old (K.contents lines.old) (K.contents lines.new) floor.new) }
+        IsWrittenRun l session.now.team.now floor.old (K.contents lines.old) (K.contents lines.new) floor.new) }
     ensures err { (l : Legalizer) → OnErr result (
-        IsRunWithCutLine l seat.now.team.now floor.old (K.contents lines.old) (K.contents lines.new) floor.new) }
-    ensures only { ChangesOnly seat.now.team.now floor.old floor.new }
-    ensures settings { KeepsOtherSettings seat.now.team.now seat.now.session floor.old floor.new }
+        IsRunWithCutLine l session.now.team.now floor.old (K.contents lines.old) (K.contents lines.new) floor.new) }
+    ensures only { ChangesOnly session.now.team.now floor.old floor.new }
+    ensures settings { KeepsOtherSettings session.now.team.now session.now.session floor.old floor.new }
     ensures improved { IfOk result (λ found. IfSome found (λ length.
-        IsShortened attempt.now.wires.now.netlist.now.nets attempt.now.wish.now.length
-        attempt.now.wish.now.options.within attempt.now.start.now.pass.targets.items
-        seat.now.team.now floor.new length)) }
+        IsShortened attempt.now.wires.now.netlist.now.nets attempt.now.goal.now.length
+        attempt.now.goal.now.options.within attempt.now.input.now.pass.targets.items
+        session.now.team.now floor.new length)) }
     ensures kept { IfOk result (λ found. found ≡ None → floor.new ≡ floor.old) }
 {
-    let Some(length) = better_length(alloc, floor, seat.number, attempt) else {
+    let Some(length) = better_length(alloc, floor, session.number, attempt) else {
         return Ok(None);
     };
-    if !are_off_soft(floor, seat, attempt.start.pass.targets.as_slice()) {
+    if !are_off_soft(floor, session, attempt.input.pass.targets.as_slice()) {
         return Ok(None);
     }
-    let mut texts = Buffers::new(alloc);
-    match try_commit(floor, seat, &mut texts, lines) {
+    let mut buffers = Buffers::new(alloc);
+    match try_commit(floor, session, &mut buffers, lines) {
         Ok(true) => Ok(Some(length)),
         Ok(false) => Ok(None),
         Err(fault) => Err(fault),
@@ -242,34 +242,34 @@ fn commit_if_better<S: Seeker + Drop, K: Sink>(
 fn commit_or_move_back<S: Seeker + Drop, K: Sink>(
     alloc: Global,
     floor: &mut Floor<S>,
-    seat: &TeamSession<'_>,
+    session: &TeamSession<'_>,
     attempt: &Attempt<'_>,
     lines: &mut K,
 ) -> Result<Option<u64>, RepairFault>
-    requires number { team_number floor.old.frame seat.now.team.now ≡ Some seat.now.number }
-    requires decides { DecidesAfter seat.now.team.now attempt.now.wires.now.netlist.now.nets
-        (slice_index_or attempt.now.wires.now.of_teams.now seat.now.number []) attempt.now.wish.now.length
+    requires number { team_number floor.old.frame session.now.team.now ≡ Some session.now.number }
+    requires decides { DecidesAfter session.now.team.now attempt.now.wires.now.netlist.now.nets
+        (slice_index_or attempt.now.wires.now.of_teams.now session.now.number []) attempt.now.goal.now.length
         attempt.now.part floor.old }
     ensures run { (l : Legalizer) → IfOk result (λ _.
-        IsWrittenRun l seat.now.team.now floor.old (K.contents lines.old) (K.contents lines.new) floor.new) }
+        IsWrittenRun l session.now.team.now floor.old (K.contents lines.old) (K.contents lines.new) floor.new) }
     ensures err { (l : Legalizer) → OnErr result (
-        IsRunWithCutLine l seat.now.team.now floor.old (K.contents lines.old) (K.contents lines.new) floor.new) }
-    ensures only { ChangesOnly seat.now.team.now floor.old floor.new }
-    ensures settings { KeepsOtherSettings seat.now.team.now seat.now.session floor.old floor.new }
+        IsRunWithCutLine l session.now.team.now floor.old (K.contents lines.old) (K.contents lines.new) floor.new) }
+    ensures only { ChangesOnly session.now.team.now floor.old floor.new }
+    ensures settings { KeepsOtherSettings session.now.team.now session.now.session floor.old floor.new }
     ensures improved { IfOk result (λ found. IfSome found (λ length.
-        IsShortened attempt.now.wires.now.netlist.now.nets attempt.now.wish.now.length
-        attempt.now.wish.now.options.within attempt.now.start.now.pass.targets.items
-        seat.now.team.now floor.new length)) }
+        IsShortened attempt.now.wires.now.netlist.now.nets attempt.now.goal.now.length
+        attempt.now.goal.now.options.within attempt.now.input.now.pass.targets.items
+        session.now.team.now floor.new length)) }
     ensures kept { IfOk result (λ found.
-        found ≡ None → IsMovedBack seat.now.team.now floor.old floor.new) }
+        found ≡ None → IsMovedBack session.now.team.now floor.old floor.new) }
 {
-    match commit_if_better(alloc, floor, seat, attempt, lines) {
+    match commit_if_better(alloc, floor, session, attempt, lines) {
         Ok(Some(length)) => return Ok(Some(length)),
         Ok(None) => {}
         Err(fault) => return Err(fault),
     }
-    let mut texts = Buffers::new(alloc);
-    match revert(floor, seat, &mut texts, lines) {
+    let mut buffers = Buffers::new(alloc);
+    match revert(floor, session, &mut buffers, lines) {
         Ok(()) => Ok(None),
         Err(fault) => Err(fault),
     }
@@ -280,40 +280,40 @@ fn commit_or_move_back<S: Seeker + Drop, K: Sink>(
 fn move_cells<S: Seeker + Drop, K: Sink>(
     alloc: Global,
     floor: &mut Floor<S>,
-    seat: &TeamSession<'_>,
+    session: &TeamSession<'_>,
     attempt: &Attempt<'_>,
     lines: &mut K,
 ) -> Result<Option<u64>, RepairFault>
-    requires number { team_number floor.old.frame seat.now.team.now ≡ Some seat.now.number }
-    requires committed { IsCommitted seat.now.team.now floor.old }
-    requires decides { DecidesAfter seat.now.team.now attempt.now.wires.now.netlist.now.nets
-        (slice_index_or attempt.now.wires.now.of_teams.now seat.now.number []) attempt.now.wish.now.length
+    requires number { team_number floor.old.frame session.now.team.now ≡ Some session.now.number }
+    requires committed { IsCommitted session.now.team.now floor.old }
+    requires decides { DecidesAfter session.now.team.now attempt.now.wires.now.netlist.now.nets
+        (slice_index_or attempt.now.wires.now.of_teams.now session.now.number []) attempt.now.goal.now.length
         attempt.now.part floor.old }
     ensures run { (l : Legalizer) → IfOk result (λ _.
-        IsWrittenRun l seat.now.team.now floor.old (K.contents lines.old) (K.contents lines.new) floor.new) }
+        IsWrittenRun l session.now.team.now floor.old (K.contents lines.old) (K.contents lines.new) floor.new) }
     ensures err { (l : Legalizer) → OnErr result (
-        IsRunWithCutLine l seat.now.team.now floor.old (K.contents lines.old) (K.contents lines.new) floor.new) }
-    ensures only { ChangesOnly seat.now.team.now floor.old floor.new }
-    ensures settings { KeepsOtherSettings seat.now.team.now seat.now.session floor.old floor.new }
+        IsRunWithCutLine l session.now.team.now floor.old (K.contents lines.old) (K.contents lines.new) floor.new) }
+    ensures only { ChangesOnly session.now.team.now floor.old floor.new }
+    ensures settings { KeepsOtherSettings session.now.team.now session.now.session floor.old floor.new }
     ensures improved { IfOk result (λ found. IfSome found (λ length.
-        IsShortened attempt.now.wires.now.netlist.now.nets attempt.now.wish.now.length
-        attempt.now.wish.now.options.within attempt.now.start.now.pass.targets.items
-        seat.now.team.now floor.new length)) }
+        IsShortened attempt.now.wires.now.netlist.now.nets attempt.now.goal.now.length
+        attempt.now.goal.now.options.within attempt.now.input.now.pass.targets.items
+        session.now.team.now floor.new length)) }
     ensures kept { IfOk result (λ found.
-        found ≡ None → KeepsTeamPlaces seat.now.team.now floor.old floor.new) }
+        found ≡ None → KeepsTeamPlaces session.now.team.now floor.old floor.new) }
 {
-    let Ok(edits) = team_edits(alloc, floor, seat.number, attempt) else {
+    let Ok(edits) = team_edits(alloc, floor, session.number, attempt) else {
         return Err(RepairFault::OutOfMemory);
     };
     if edits.is_empty() {
         return Ok(None);
     }
-    let mut texts = Buffers::new(alloc);
-    match run_edits(floor, seat, &[], edits.as_slice(), &mut texts, lines) {
+    let mut buffers = Buffers::new(alloc);
+    match run_edits(floor, session, &[], edits.as_slice(), &mut buffers, lines) {
         Ok(()) => {}
         Err(fault) => return Err(fault),
     }
-    commit_or_move_back(alloc, floor, seat, attempt, lines)
+    commit_or_move_back(alloc, floor, session, attempt, lines)
 }
 
 /// Opens a session, moves cells of the team, and closes the session. Returns the wire length if the
@@ -329,7 +329,7 @@ fn improve_in_session<S: Seeker + Drop, K: Sink>(
     requires number { team_number floor.old.frame team.now ≡ Some number }
     requires committed { IsCommitted team.now floor.old }
     requires decides { DecidesAfter team.now attempt.now.wires.now.netlist.now.nets
-        (slice_index_or attempt.now.wires.now.of_teams.now number []) attempt.now.wish.now.length
+        (slice_index_or attempt.now.wires.now.of_teams.now number []) attempt.now.goal.now.length
         attempt.now.part floor.old }
     ensures run { (l : Legalizer) → IfOk result (λ _.
         IsWrittenRun l team.now floor.old (K.contents lines.old) (K.contents lines.new) floor.new) }
@@ -338,13 +338,13 @@ fn improve_in_session<S: Seeker + Drop, K: Sink>(
     ensures only { ChangesOnly team.now floor.old floor.new }
     ensures settings { OnOk result (settings_in floor.new team.now ≡ settings_in floor.old team.now) }
     ensures improved { IfOk result (λ found. IfSome found (λ length.
-        IsShortened attempt.now.wires.now.netlist.now.nets attempt.now.wish.now.length
-        attempt.now.wish.now.options.within attempt.now.start.now.pass.targets.items
+        IsShortened attempt.now.wires.now.netlist.now.nets attempt.now.goal.now.length
+        attempt.now.goal.now.options.within attempt.now.input.now.pass.targets.items
         team.now floor.new length)) }
     ensures kept { IfOk result (λ found. found ≡ None → KeepsTeamPlaces team.now floor.old floor.new) }
 {
-    let mut texts = Buffers::new(alloc);
-    let session = match open(floor, team, &mut texts, lines) {
+    let mut buffers = Buffers::new(alloc);
+    let session = match open(floor, team, &mut buffers, lines) {
         Ok(session) => session,
         Err(fault) => return Err(fault),
     };
@@ -358,7 +358,7 @@ fn improve_in_session<S: Seeker + Drop, K: Sink>(
         Ok(found) => found,
         Err(fault) => return Err(fault),
     };
-    match close(floor, &seat, &mut texts, lines) {
+    match close(floor, &seat, &mut buffers, lines) {
         Ok(()) => Ok(found),
         Err(fault) => Err(fault),
     }
@@ -383,19 +383,19 @@ fn result_of<S: Seeker + Drop>(
 ) -> TeamImprovement
     ensures skipped { result.is_skipped ≡ is_skipped }
     ensures improved { result.is_improved ≡ is_some found }
-    ensures length { result.length ≡ unwrap_or found attempt.now.wish.now.length }
+    ensures length { result.length ≡ unwrap_or found attempt.now.goal.now.length }
     ensures cells { (s : TeamState) → slice_get floor.now.teams number ≡ Some s → result.cells ≡ length s.cells }
     ensures lists { (result.stats.changed.items ≡ []) × (result.stats.unrepaired.items ≡ []) }
     ensures tally { (s : TeamState) → slice_get floor.now.teams number ≡ Some s
-        → AreStatsOfFirst attempt.now.start.now.pass.targets.items attempt.now.start.now.legal.items s.cells
+        → AreStatsOfFirst attempt.now.input.now.pass.targets.items attempt.now.input.now.legal.items s.cells
         (length s.cells) result.stats }
 {
     TeamImprovement {
         is_skipped,
         is_improved: found.is_some(),
         cells: team_size(floor.placement(), number),
-        stats: team_stats(alloc, floor, number, attempt.start),
-        length: found.unwrap_or(attempt.wish.length),
+        stats: team_stats(alloc, floor, number, attempt.input),
+        length: found.unwrap_or(attempt.goal.length),
     }
 }
 
@@ -419,11 +419,11 @@ pub fn improve_team<S: Seeker + Drop, K: Sink>(
     floor: &mut Floor<S>,
     team: &[u8],
     wires: &WireNets<'_>,
-    wish: &ImproveWish,
+    goal: &ImproveWish,
     search: &ImproveSearch,
     lines: &mut K,
 ) -> Result<TeamImprovement, RepairFault>
-    requires measured { IsWireLengthOn wires.now.netlist.now.nets floor.old wish.now.length }
+    requires measured { IsWireLengthOn wires.now.netlist.now.nets floor.old goal.now.length }
     requires nets { AreNetsOfFloor wires.now.of_teams.now wires.now.netlist.now.nets floor.old }
     ensures run { (l : Legalizer) → IfOk result (λ _.
         IsWrittenRun l team.now floor.old (K.contents lines.old) (K.contents lines.new) floor.new) }
@@ -439,9 +439,9 @@ pub fn improve_team<S: Seeker + Drop, K: Sink>(
         IsTrue done.is_improved → AllCommittedIn l floor.new team.now) }
     ensures kept { IfOk result (λ done. done.is_improved ≡ false → KeepsTeamPlaces team.now floor.old floor.new) }
     ensures measured { IfOk result (λ done. IsWireLengthOn wires.now.netlist.now.nets floor.new done.length) }
-    ensures longer { IfOk result (λ done. done.length ≤ wish.now.length) }
-    ensures shorter { IfOk result (λ done. IsTrue done.is_improved → done.length < wish.now.length) }
-    ensures near { IfOk result (λ done. StaysWithin wish.now.options.within team.now floor.old floor.new) }
+    ensures longer { IfOk result (λ done. done.length ≤ goal.now.length) }
+    ensures shorter { IfOk result (λ done. IsTrue done.is_improved → done.length < goal.now.length) }
+    ensures near { IfOk result (λ done. StaysWithin goal.now.options.within team.now floor.old floor.new) }
     ensures off_soft { IfOk result (λ done. AreMovedOffSoft team.now floor.old floor.new) }
     ensures counted { IfOk result (λ done. AreTeamStats team.now floor.old floor.new done.stats) }
     ensures lists { IfOk result (λ done. (done.stats.changed.items ≡ []) × (done.stats.unrepaired.items ≡ [])) }
@@ -451,14 +451,14 @@ pub fn improve_team<S: Seeker + Drop, K: Sink>(
     let Some(number) = floor.team_number(team) else {
         return Err(RepairFault::NoTeam);
     };
-    length_is_bounded(wish.length);
+    length_is_bounded(goal.length);
     let Ok(start) = team_input(alloc, floor, team, number, MovePolicy::MoveAll, &[]) else {
         return Err(RepairFault::OutOfMemory);
     };
     let attempt = Attempt {
-        start: &start,
+        input: &start,
         wires,
-        wish,
+        goal,
         search,
         part: length_of_team(floor, wires, number),
     };

@@ -69,7 +69,7 @@ fn part_of(name: &[u8]) -> usize
 
 /// Returns the first `len` bytes, and the bytes after them.
 fn cut(bytes: &[u8], len: usize) -> (&[u8], &[u8])
-    ensures front { result.0.now ≡ take len bytes.now }
+    ensures prefix { result.0.now ≡ take len bytes.now }
     ensures back { result.1.now ≡ drop len bytes.now }
 {
     bytes.split_at(len.min(bytes.len()))

@@ -10,7 +10,7 @@ ghost use Rattle.lf_occupancy.specs.Strips.{HasOneMarkInRows, boxes_set, capacit
 ghost use Rattle.lf_occupancy.specs.Widened.{all_widened};
 
 use crate::boxes::CellBox;
-use crate::strip_marks::{StripMarks, make_room, put_in, unmark};
+use crate::strip_marks::{StripMarks, put_in, reserve_marks, unmark};
 use crate::widened::{DistinctRows, WidenedStrips, distinct_rows, widened_area, widened_strips};
 use lf_cells::CellId;
 use lf_segments::{RowEntry, StripRange};
@@ -37,7 +37,7 @@ fn make_room_in_row(
 {
     let near = widened_strips(strips, row, id.team as usize, rect);
     for n in near.start..near.end {
-        make_room(&mut mark_lists[n], more)?;
+        reserve_marks(&mut mark_lists[n], more)?;
     }
     Ok(())
 }
@@ -241,7 +241,7 @@ fn make_room_in_run(mark_lists: &mut Vec<StripMarks>, near: &StripRange) -> Resu
     ensures ok { OnOk result (HaveRoom (IsOneOf near.now) 1 mark_lists.new.items) }
 {
     for n in near.start..near.end {
-        make_room(&mut mark_lists[n], 1)?;
+        reserve_marks(&mut mark_lists[n], 1)?;
     }
     Ok(())
 }

@@ -226,19 +226,19 @@ impl Occupancy {
     /// room.
     pub fn reserve_counted(
         &mut self,
-        tally: &mut StripCounts,
+        counts: &mut StripCounts,
         team: usize,
         from: &Option<Rect>,
         to: &Option<Rect>,
     ) -> Result<(), AllocError>
-        requires { KeepsCapacities tally.old (capacities_in self.old.mark_lists) }
-        ensures room { OnOk result (KeepsCapacities tally.new (capacities_in self.new.mark_lists)) }
+        requires { KeepsCapacities counts.old (capacities_in self.old.mark_lists) }
+        ensures room { OnOk result (KeepsCapacities counts.new (capacities_in self.new.mark_lists)) }
         ensures own { (boxes : List (Option Rect)) → (own : ℕ) → cell_box boxes own ≡ from.now
-            → Bounds (with_boxes self.old []) team boxes tally.old
-            → OnOk result (Bounds (with_boxes self.new []) team (slice_set boxes own to.now) tally.new) }
+            → Bounds (with_boxes self.old []) team boxes counts.old
+            → OnOk result (Bounds (with_boxes self.new []) team (slice_set boxes own to.now) counts.new) }
         ensures others { (boxes : List (Option Rect)) → (other : ℕ) → other ≢ team
-            → Bounds (with_boxes self.old []) other boxes tally.old
-            → OnOk result (Bounds (with_boxes self.new []) other boxes tally.new) }
+            → Bounds (with_boxes self.old []) other boxes counts.old
+            → OnOk result (Bounds (with_boxes self.new []) other boxes counts.new) }
         ensures holds { (boxes : List (List (Option Rect))) → MarksBoxes self.old boxes → MarksBoxes self.new boxes }
         ensures index { self.new.index ≡ self.old.index }
         ensures site { self.new.site ≡ self.old.site }
@@ -251,14 +251,14 @@ impl Occupancy {
         if let Some(shift) = near_shift(from, to) {
             return shift_rows(
                 &mut self.mark_lists,
-                &mut tally.counts,
+                &mut counts.counts,
                 &strips,
                 team,
                 &shift,
             );
         }
-        lower(&mut tally.counts, &strips, team, from);
-        raise(&mut self.mark_lists, &mut tally.counts, &strips, team, to)
+        lower(&mut counts.counts, &strips, team, from);
+        raise(&mut self.mark_lists, &mut counts.counts, &strips, team, to)
     }
 
     /// A law: the boxes that the strips hold fit. Each strip, widened by 16 core sites, has room

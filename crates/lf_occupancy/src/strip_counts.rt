@@ -9,7 +9,7 @@ ghost use Rattle.lf_occupancy.specs.MarkLists.{KeepsMarksOf};
 ghost use Rattle.lf_occupancy.specs.Widened.{all_widened};
 ghost use Rattle.lf_occupancy.specs.StripCounting.{AreShifted, HaveRoomForCounts, IsHigher, IsLess, IsLessAt, IsLower, IsMore, IsShiftOf, IsShifted, IsShiftedAt, hull_in};
 
-use crate::strip_marks::{StripMarks, has_points, make_room, part_of};
+use crate::strip_marks::{StripMarks, has_points, part_of, reserve_marks};
 use crate::widened::{DistinctRows, WidenedStrips, distinct_rows, widened_area, widened_strips};
 use lf_segments::StripRange;
 use lf_units::Rect;
@@ -111,7 +111,7 @@ fn count_more(mark_list: &mut StripMarks, count: &mut usize) -> Result<(), Alloc
     };
     let marks = &mut mark_list.marks;
     let more = next.saturating_sub(marks.len());
-    make_room(mark_list, more)?;
+    reserve_marks(mark_list, more)?;
     *count = next;
     Ok(())
 }

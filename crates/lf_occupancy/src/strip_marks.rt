@@ -422,7 +422,7 @@ pub(crate) fn unmark(mark_list: &mut StripMarks, own: u32, left: &i64)
 
 /// Makes room for `more` marks. If there is not enough, it adds room for a quarter of the present
 /// marks, and for two at least. There are many strips, so doubling each would cost too much memory.
-pub(crate) fn make_room(mark_list: &mut StripMarks, more: usize) -> Result<(), AllocError>
+pub(crate) fn reserve_marks(mark_list: &mut StripMarks, more: usize) -> Result<(), AllocError>
     ensures kept { KeepsMarksOf mark_list.old mark_list.new }
     ensures ok { OnOk result (HasRoomOf more mark_list.new) }
 {

@@ -98,12 +98,12 @@ moved_other (c ∷ cs) (suc own) (suc k) place differ = moved_other cs own k pla
 made_other : (moves : List Move) (cells : List Cell) (k : ℕ) → DoNotMove (moved_positions moves) (length (moved_positions moves)) k → slice_get (moves_applied moves cells) k ≡ slice_get cells k
 made_other [] cells k never = refl
 made_other (m ∷ ms) cells k never =
-    made_other ms (moved cells m.own m.old) k (λ i less. never (suc i) (omega (arith, less))) ∙ moved_other cells m.own k m.old (never 0 (omega arith))
+    made_other ms (moved cells m.own m.place) k (λ i less. never (suc i) (omega (arith, less))) ∙ moved_other cells m.own k m.place (never 0 (omega arith))
 
 back_other : (moves : List Move) (cells : List Cell) (k : ℕ) → DoNotMove (moved_positions moves) (length (moved_positions moves)) k → slice_get (moves_reverted moves cells) k ≡ slice_get cells k
 back_other [] cells k never = refl
 back_other (m ∷ ms) cells k never =
-    moved_other (moves_reverted ms cells) m.own k m.old (never 0 (omega arith)) ∙ back_other ms cells k (λ i less. never (suc i) (omega (arith, less)))
+    moved_other (moves_reverted ms cells) m.own k m.place (never 0 (omega arith)) ∙ back_other ms cells k (λ i less. never (suc i) (omega (arith, less)))
 
 box_at_number : (f : Frame) (cells : List Cell) (k : ℕ) → cell_box (map (working_box_of f) cells) k ≡ option_and_then (working_box_of f) (slice_get cells k)
 box_at_number f [] k = refl

@@ -54,38 +54,38 @@ count_made : (g : Strip) (f : Frame) (moves : List Move) (cells : List Cell)
     → count_in g (map (working_box_of f) (moves_applied moves cells)) ≤ count_in g (map (working_box_of f) cells) + length moves
 count_made g f [] cells = omega arith
 count_made g f (m ∷ ms) cells =
-    let rest = count_made g f ms (moved cells m.own m.old) in
-    let is = ap (count_in g) (boxes_moved f cells m.own m.old) in
-    let one = set_is_one_more g (map (working_box_of f) cells) m.own (box_moved f (slice_get cells m.own) m.old) in
+    let rest = count_made g f ms (moved cells m.own m.place) in
+    let is = ap (count_in g) (boxes_moved f cells m.own m.place) in
+    let one = set_is_one_more g (map (working_box_of f) cells) m.own (box_moved f (slice_get cells m.own) m.place) in
     omega (arith, rest, is, one)
 
 -- one of the moves has a box that shares a point with the strip
 record Overlaps (g : Strip) (f : Frame) (moves : List Move) (cells : List Cell) : Type 0 where
   move : Move
   among : Contains moves move
-  yes : does_overlap g (box_moved f (slice_get cells move.own) move.old) ≡ true
+  yes : does_overlap g (box_moved f (slice_get cells move.own) move.place) ≡ true
 
 -- otherwise the count does not increase
 overlaps_or_not : (g : Strip) (f : Frame) (moves : List Move) (cells : List Cell)
     → Overlaps g f moves cells ⊎ (count_in g (map (working_box_of f) (moves_applied moves cells)) ≤ count_in g (map (working_box_of f) cells))
 overlaps_or_not g f [] cells = inr (omega arith)
-overlaps_or_not g f (m ∷ ms) cells = first (does_overlap g (box_moved f (slice_get cells m.own) m.old)) refl (overlaps_or_not g f ms (moved cells m.own m.old)) where
-  later : does_overlap g (box_moved f (slice_get cells m.own) m.old) ≡ false
-      → Overlaps g f ms (moved cells m.own m.old) ⊎ (count_in g (map (working_box_of f) (moves_applied ms (moved cells m.own m.old))) ≤ count_in g (map (working_box_of f) (moved cells m.own m.old)))
-      → Overlaps g f (m ∷ ms) cells ⊎ (count_in g (map (working_box_of f) (moves_applied ms (moved cells m.own m.old))) ≤ count_in g (map (working_box_of f) cells))
+overlaps_or_not g f (m ∷ ms) cells = first (does_overlap g (box_moved f (slice_get cells m.own) m.place)) refl (overlaps_or_not g f ms (moved cells m.own m.place)) where
+  later : does_overlap g (box_moved f (slice_get cells m.own) m.place) ≡ false
+      → Overlaps g f ms (moved cells m.own m.place) ⊎ (count_in g (map (working_box_of f) (moves_applied ms (moved cells m.own m.place))) ≤ count_in g (map (working_box_of f) (moved cells m.own m.place)))
+      → Overlaps g f (m ∷ ms) cells ⊎ (count_in g (map (working_box_of f) (moves_applied ms (moved cells m.own m.place))) ≤ count_in g (map (working_box_of f) cells))
   later apart (inl there) = inl record {
     move = there.move;
     among = (suc there.among.0, let h = there.among.1 in omega (arith, h), there.among.2);
-    yes = ap (does_overlap g) (sym (box_still f cells m.own there.move.own m.old there.move.old)) ∙ there.yes;
+    yes = ap (does_overlap g) (sym (box_still f cells m.own there.move.own m.place there.move.place)) ∙ there.yes;
   }
   later apart (inr most) =
-      let is = ap (count_in g) (boxes_moved f cells m.own m.old) in
-      let still = set_no_more g (map (working_box_of f) cells) m.own (box_moved f (slice_get cells m.own) m.old) apart in
+      let is = ap (count_in g) (boxes_moved f cells m.own m.place) in
+      let still = set_no_more g (map (working_box_of f) cells) m.own (box_moved f (slice_get cells m.own) m.place) apart in
       inr (omega (arith, most, is, still))
 
-  first : (b : Bool) → does_overlap g (box_moved f (slice_get cells m.own) m.old) ≡ b
-      → Overlaps g f ms (moved cells m.own m.old) ⊎ (count_in g (map (working_box_of f) (moves_applied ms (moved cells m.own m.old))) ≤ count_in g (map (working_box_of f) (moved cells m.own m.old)))
-      → Overlaps g f (m ∷ ms) cells ⊎ (count_in g (map (working_box_of f) (moves_applied ms (moved cells m.own m.old))) ≤ count_in g (map (working_box_of f) cells))
+  first : (b : Bool) → does_overlap g (box_moved f (slice_get cells m.own) m.place) ≡ b
+      → Overlaps g f ms (moved cells m.own m.place) ⊎ (count_in g (map (working_box_of f) (moves_applied ms (moved cells m.own m.place))) ≤ count_in g (map (working_box_of f) (moved cells m.own m.place)))
+      → Overlaps g f (m ∷ ms) cells ⊎ (count_in g (map (working_box_of f) (moves_applied ms (moved cells m.own m.place))) ≤ count_in g (map (working_box_of f) cells))
   first true is rest = inl record { move = m; among = (0, omega arith, refl); yes = is }
   first false is rest = later is rest
 
@@ -132,6 +132,6 @@ room_made f team cells moves o held fits room n g there of_team = go (overlaps_o
       map_at (requested_box f team cells) moves k (requested_box f team cells m) m inside ∙ ap (requested_box f team cells) one.among.2 in
       let requested = subst (λ (a : CellId × Option Rect). IfSome a.1 (λ r. HasRoomFor o a.0.team r (length (map (requested_box f team cells) moves)))) at
       (room k (requested_box f team cells m) within) in
-      let left = room_there g f team m.own (length (map (requested_box f team cells) moves)) n o (slice_get cells m.own) m.old there of_team one.yes requested in
+      let left = room_there g f team m.own (length (map (requested_box f team cells) moves)) n o (slice_get cells m.own) m.place there of_team one.yes requested in
       let most = count_made around f moves cells in
       omega (arith, left, most, same, count)

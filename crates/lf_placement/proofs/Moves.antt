@@ -55,11 +55,11 @@ same_moved (c ∷ cs) (suc own) place = ap (λ (r : List Cell). without_place c 
 
 pub same_made : (moves : List Move) (cells : List Cell) → SameButPlaces cells (moves_applied moves cells)
 same_made [] cells = refl
-same_made (m ∷ ms) cells = same_made ms (moved cells m.own m.old) ∙ same_moved cells m.own m.old
+same_made (m ∷ ms) cells = same_made ms (moved cells m.own m.place) ∙ same_moved cells m.own m.place
 
 pub same_back : (moves : List Move) (cells : List Cell) → SameButPlaces cells (moves_reverted moves cells)
 same_back [] cells = refl
-same_back (m ∷ ms) cells = same_moved (moves_reverted ms cells) m.own m.old ∙ same_back ms cells
+same_back (m ∷ ms) cells = same_moved (moves_reverted ms cells) m.own m.place ∙ same_back ms cells
 
 pub first_same : {a b : Cell} {rest others : List Cell} → a ∷ rest ≡ b ∷ others → a ≡ b
 first_same e = cc
@@ -102,7 +102,7 @@ places_moved (c ∷ cs) (suc own) place = ap (λ (r : Places). c.working ∷ r) 
 
 pub places_back : (moves : List Move) (cells : List Cell) → working_places_of (moves_reverted moves cells) ≡ moves_taken_back moves (working_places_of cells)
 places_back [] cells = refl
-places_back (m ∷ ms) cells = places_moved (moves_reverted ms cells) m.own m.old ∙ ap (λ (ps : Places). set ps m.own m.old) (places_back ms cells)
+places_back (m ∷ ms) cells = places_moved (moves_reverted ms cells) m.own m.place ∙ ap (λ (ps : Places). set ps m.own m.place) (places_back ms cells)
 
 place_there : (cells : List Cell) (own : ℕ) → get_or (working_places_of cells) own None ≡ working_at cells own
 place_there [] own = refl
@@ -111,11 +111,11 @@ place_there (c ∷ cs) (suc own) = place_there cs own
 
 -- one more cell moves, and its place is stored
 one_more : (before now : List Cell) (moves : List Move) (own : ℕ) (place old : Option Place) → old ≡ working_at now own → HaveMoved before moves now
-    → HaveMoved before (moves ++ record { own = own; old = old } ∷ []) (moved now own place)
+    → HaveMoved before (moves ++ record { own = own; place = old } ∷ []) (moved now own place)
 one_more before now moves own place old was have = record {
   places =
-      ap (λ (o : Option Place). moves_taken_back (moves ++ record { own = own; old = o } ∷ []) (working_places_of (moved now own place))) (was ∙ sym (place_there now own))
-      ∙ ap (moves_taken_back (moves ++ record { own = own; old = get_or (working_places_of now) own None } ∷ [])) (places_moved now own place)
+      ap (λ (o : Option Place). moves_taken_back (moves ++ record { own = own; place = o } ∷ []) (working_places_of (moved now own place))) (was ∙ sym (place_there now own))
+      ∙ ap (moves_taken_back (moves ++ record { own = own; place = get_or (working_places_of now) own None } ∷ [])) (places_moved now own place)
       ∙ undo_one_more (working_places_of before) (working_places_of now) moves own place have.places;
   same = same_moved now own place ∙ have.same;
 }
@@ -129,9 +129,9 @@ have_back before now moves have =
 
 -- the move at this position gets the old place: the moves in front of it, and then the new one
 take_replaced : (moves : List Move) (at : ℕ) (old : Option Place) (next : Move) → at < length moves → next ≡ get_or moves at next
-    → take (at + 1) (replaced moves at old) ≡ take at moves ++ record { own = next.own; old = old } ∷ []
+    → take (at + 1) (replaced moves at old) ≡ take at moves ++ record { own = next.own; place = old } ∷ []
 take_replaced [] at old next within is = absurd (omega (arith, within))
-take_replaced (m ∷ ms) zero old next within is = ap (λ (x : Move). record { own = x.own; old = old } ∷ []) (sym is)
+take_replaced (m ∷ ms) zero old next within is = ap (λ (x : Move). record { own = x.own; place = old } ∷ []) (sym is)
 take_replaced (m ∷ ms) (suc at) old next within is =
     let more : suc at + 1 ≡ suc (at + 1) = omega arith in
     rw more (ap (λ (r : List Move). m ∷ r) (take_replaced ms at old next (omega (arith, within)) is))
@@ -160,13 +160,13 @@ pub record IsMakingAt (start to now : List Cell) (given moves : List Move) (from
 
 pub making_next : (start to now : List Cell) (given moves : List Move) (from at : ℕ) (next : Move) (was : Option Place) → at < length moves
     → next ≡ get_or moves at next → was ≡ working_at now next.own → IsMakingAt start to now given moves from at
-    → IsMakingAt start to (moved now next.own next.old) given (replaced moves at was) from (at + 1)
+    → IsMakingAt start to (moved now next.own next.place) given (replaced moves at was) from (at + 1)
 making_next start to now given moves from at next was within is noted making = record {
-  rest = ap (λ (ms : List Move). moves_applied ms (moved now next.own next.old)) (drop_replaced moves at was)
+  rest = ap (λ (ms : List Move). moves_applied ms (moved now next.own next.place)) (drop_replaced moves at was)
       ∙ ap (λ (ms : List Move). moves_applied ms now) (sym (drop_here moves at next within is)) ∙ making.rest;
   notes = λ before have.
       rw (take_replaced moves at was next within is)
-      (one_more before now (take at moves) next.own next.old was noted (making.notes before have));
+      (one_more before now (take at moves) next.own next.place was noted (making.notes before have));
   owns = owns_replaced moves at was ∙ making.owns;
 }
 
@@ -174,11 +174,11 @@ making_next start to now given moves from at next was within is noted making = r
 
 made_back-append : (first second : List Move) (cells : List Cell) → moves_reverted (first ++ second) cells ≡ moves_reverted first (moves_reverted second cells)
 made_back-append [] second cells = refl
-made_back-append (m ∷ first) second cells = ap (λ (cs : List Cell). moved cs m.own m.old) (made_back-append first second cells)
+made_back-append (m ∷ first) second cells = ap (λ (cs : List Cell). moved cs m.own m.place) (made_back-append first second cells)
 
 -- the last of the remaining moves is undone
 pub one_less : (now : List Cell) (moves : List Move) (n : ℕ) (m : Move) → n < length moves → m ≡ get_or moves n m
-    → moves_reverted (take n moves) (moved now m.own m.old) ≡ moves_reverted (take (n + 1) moves) now
+    → moves_reverted (take n moves) (moved now m.own m.place) ≡ moves_reverted (take (n + 1) moves) now
 one_less now moves n m within read =
     sym (made_back-append (take n moves) (m ∷ []) now)
     ∙ ap (λ (x : Move). moves_reverted (take n moves ++ x ∷ []) now) read

@@ -191,13 +191,13 @@ placing_fitted f cells m n sized few ground site gains fits = record {
 -- ---- moves that are undone, the last one first
 
 back_suc : (places : Places) (moves : List Move) (n : ℕ) (m : Move) → n < length moves → m ≡ get_or moves n m
-    → moves_taken_back (take n moves) (set places m.own m.old) ≡ moves_taken_back (take (suc n) moves) places
+    → moves_taken_back (take n moves) (set places m.own m.place) ≡ moves_taken_back (take (suc n) moves) places
 back_suc places [] n m within is = absurd (omega (arith, within))
-back_suc places (x ∷ ms) zero m within is = ap (λ (y : Move). set places y.own y.old) is
-back_suc places (x ∷ ms) (suc n) m within is = ap (λ (ps : Places). set ps x.own x.old) (back_suc places ms n m (omega (arith, within)) is)
+back_suc places (x ∷ ms) zero m within is = ap (λ (y : Move). set places y.own y.place) is
+back_suc places (x ∷ ms) (suc n) m within is = ap (λ (ps : Places). set ps x.own x.place) (back_suc places ms n m (omega (arith, within)) is)
 
 pub back_less : (places : Places) (moves : List Move) (n : ℕ) (m : Move) → n < length moves → m ≡ get_or moves n m
-    → moves_taken_back (take n moves) (set places m.own m.old) ≡ moves_taken_back (take (n + 1) moves) places
+    → moves_taken_back (take n moves) (set places m.own m.place) ≡ moves_taken_back (take (n + 1) moves) places
 back_less places moves n m within is =
     let same : suc n ≡ n + 1 = omega arith in
     back_suc places moves n m within is ∙ ap (λ (k : ℕ). moves_taken_back (take k moves) places) same

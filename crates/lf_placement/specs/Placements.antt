@@ -62,7 +62,7 @@ BoundsAt p team places tally = Bounds p.held team (boxes_at p.frame (cells_of p.
 -- the cells after these moves, in their order
 abbrev pub moves_applied : List Move → List Cell → List Cell
 moves_applied [] cells = cells
-moves_applied (m ∷ ms) cells = moves_applied ms (moved cells m.own m.old)
+moves_applied (m ∷ ms) cells = moves_applied ms (moved cells m.own m.place)
 
 -- a cell without its working place
 abbrev pub without_place : Cell → Cell

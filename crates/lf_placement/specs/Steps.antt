@@ -26,7 +26,7 @@ working_boxes f cells team = map (working_box_of f) (cells_of cells team)
 -- the cells after these moves are undone, the last one first
 abbrev pub moves_reverted : List Move → List Cell → List Cell
 moves_reverted [] cells = cells
-moves_reverted (m ∷ ms) cells = moved (moves_reverted ms cells) m.own m.old
+moves_reverted (m ∷ ms) cells = moved (moves_reverted ms cells) m.own m.place
 
 -- the positions that moves name
 abbrev pub moved_positions : List Move → List ℕ
@@ -129,4 +129,4 @@ pub record MovedMayBeInserted (f : Frame) (cells : Cells) (team : ℕ) (named : 
 -- the cell that a move names, and its box at the move's place; no box if there is no such cell
 abbrev pub requested_box : Frame → ℕ → List Cell → Move → CellId × Option Rect
 requested_box f team cells m =
-    (unwrap_or (id_in cells team m.own) record { team = 0; own = 0 }, box_moved f (slice_get cells m.own) m.old)
+    (unwrap_or (id_in cells team m.own) record { team = 0; own = 0 }, box_moved f (slice_get cells m.own) m.place)

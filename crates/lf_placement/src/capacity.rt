@@ -22,7 +22,7 @@ fn requested_box(sized: &SizedCells<'_>, team: usize, next: &Move) -> (CellId, O
     ensures { result ≡ requested_box sized.now.frame.now team (cells_of sized.now.cells.now team) next.now }
 {
     match sized.cells.cell_of(team, next.own as usize) {
-        Some(id) => (id, box_at(sized, id, next.old.place())),
+        Some(id) => (id, box_at(sized, id, next.place.place())),
         None => (CellId { team: 0, own: 0 }, None),
     }
 }
@@ -46,7 +46,7 @@ fn requested_boxes(
 
 /// Makes the room that this one move of a team's cell needs. `Err` if an allocation fails: then
 /// some room may have been made, and nothing else is changed.
-fn make_room_for(
+fn reserve_cells(
     sized: &SizedCells<'_>,
     occupancy: &mut Occupancy,
     team: usize,
@@ -85,7 +85,7 @@ pub(crate) fn reserve_moves(
     ensures rooms { KeepsCapacities (capacities_in occupancy.old.mark_lists) (capacities_in occupancy.new.mark_lists) }
 {
     if moves.len() == 1 {
-        return make_room_for(sized, occupancy, team, &moves[0]);
+        return reserve_cells(sized, occupancy, team, &moves[0]);
     }
     let requested = requested_boxes(alloc, sized, team, moves)?;
     occupancy.reserve_for(requested.as_slice())?;

@@ -65,46 +65,46 @@ fn boxes_of_change(
 pub(crate) fn reserve_change(
     sized: &SizedCells<'_>,
     occupancy: &mut Occupancy,
-    tally: &mut StripCounts,
+    counts: &mut StripCounts,
     team: usize,
     change: &Change,
 ) -> Result<(), AllocError>
-    requires { KeepsCapacities tally.old (capacities_in occupancy.old.mark_lists) }
-    ensures room { OnOk result (KeepsCapacities tally.new (capacities_in occupancy.new.mark_lists)) }
+    requires { KeepsCapacities counts.old (capacities_in occupancy.old.mark_lists) }
+    ensures room { OnOk result (KeepsCapacities counts.new (capacities_in occupancy.new.mark_lists)) }
     ensures own { (places : Places) → slice_get places change.now.own ≡ Some change.now.from
         → Bounds (with_boxes occupancy.old []) team
-        (boxes_at sized.now.frame.now (cells_of sized.now.cells.now team) places) tally.old
+        (boxes_at sized.now.frame.now (cells_of sized.now.cells.now team) places) counts.old
         → OnOk result (Bounds (with_boxes occupancy.new []) team
         (boxes_at sized.now.frame.now (cells_of sized.now.cells.now team)
-        (slice_set places change.now.own change.now.to)) tally.new) }
+        (slice_set places change.now.own change.now.to)) counts.new) }
     ensures others { (boxes : List (Option Rect)) → (other : ℕ) → other ≢ team
-        → Bounds (with_boxes occupancy.old []) other boxes tally.old
-        → OnOk result (Bounds (with_boxes occupancy.new []) other boxes tally.new) }
+        → Bounds (with_boxes occupancy.old []) other boxes counts.old
+        → OnOk result (Bounds (with_boxes occupancy.new []) other boxes counts.new) }
     ensures gains { KeepsMarks occupancy.old occupancy.new }
 {
     let (from, to) = boxes_of_change(sized, team, change);
-    occupancy.reserve_counted(tally, team, &from, &to)
+    occupancy.reserve_counted(counts, team, &from, &to)
 }
 
 /// Counts a cell at its committed place in place of its working one. `Err` if an allocation fails.
 fn fit_committed(
     sized: &SizedCells<'_>,
     occupancy: &mut Occupancy,
-    tally: &mut StripCounts,
+    counts: &mut StripCounts,
     id: &CellId,
 ) -> Result<(), AllocError>
-    requires { KeepsCapacities tally.old (capacities_in occupancy.old.mark_lists) }
-    ensures room { OnOk result (KeepsCapacities tally.new (capacities_in occupancy.new.mark_lists)) }
+    requires { KeepsCapacities counts.old (capacities_in occupancy.old.mark_lists) }
+    ensures room { OnOk result (KeepsCapacities counts.new (capacities_in occupancy.new.mark_lists)) }
     ensures own { (places : Places)
         → slice_get places id.now.own ≡ Some (working_at (cells_of sized.now.cells.now id.now.team) id.now.own)
         → Bounds (with_boxes occupancy.old []) id.now.team
-        (boxes_at sized.now.frame.now (cells_of sized.now.cells.now id.now.team) places) tally.old
+        (boxes_at sized.now.frame.now (cells_of sized.now.cells.now id.now.team) places) counts.old
         → OnOk result (Bounds (with_boxes occupancy.new []) id.now.team
         (boxes_at sized.now.frame.now (cells_of sized.now.cells.now id.now.team)
-        (slice_set places id.now.own (committed_at (cells_of sized.now.cells.now id.now.team) id.now.own))) tally.new) }
+        (slice_set places id.now.own (committed_at (cells_of sized.now.cells.now id.now.team) id.now.own))) counts.new) }
     ensures others { (boxes : List (Option Rect)) → (other : ℕ) → other ≢ id.now.team
-        → Bounds (with_boxes occupancy.old []) other boxes tally.old
-        → OnOk result (Bounds (with_boxes occupancy.new []) other boxes tally.new) }
+        → Bounds (with_boxes occupancy.old []) other boxes counts.old
+        → OnOk result (Bounds (with_boxes occupancy.new []) other boxes counts.new) }
     ensures gains { KeepsMarks occupancy.old occupancy.new }
 {
     let from = sized.cells.working(*id);
@@ -117,7 +117,7 @@ fn fit_committed(
         from: PackedPlace::of(from),
         to: PackedPlace::of(to),
     };
-    reserve_change(sized, occupancy, tally, id.team as usize, &change)
+    reserve_change(sized, occupancy, counts, id.team as usize, &change)
 }
 
 /// Counts each cell of the team at its committed place in place of its working one. `Err` if an
@@ -125,23 +125,23 @@ fn fit_committed(
 fn fit_team(
     sized: &SizedCells<'_>,
     occupancy: &mut Occupancy,
-    tally: &mut StripCounts,
+    counts: &mut StripCounts,
     team: usize,
 ) -> Result<(), AllocError>
-    requires { KeepsCapacities tally.old (capacities_in occupancy.old.mark_lists) }
-    ensures room { OnOk result (KeepsCapacities tally.new (capacities_in occupancy.new.mark_lists)) }
+    requires { KeepsCapacities counts.old (capacities_in occupancy.old.mark_lists) }
+    ensures room { OnOk result (KeepsCapacities counts.new (capacities_in occupancy.new.mark_lists)) }
     ensures own { Bounds (with_boxes occupancy.old []) team (boxes_at sized.now.frame.now
-        (cells_of sized.now.cells.now team) (working_places_of (cells_of sized.now.cells.now team))) tally.old
+        (cells_of sized.now.cells.now team) (working_places_of (cells_of sized.now.cells.now team))) counts.old
         → OnOk result (Bounds (with_boxes occupancy.new []) team
         (boxes_at sized.now.frame.now (cells_of sized.now.cells.now team)
-        (committed_of (cells_of sized.now.cells.now team))) tally.new) }
+        (committed_of (cells_of sized.now.cells.now team))) counts.new) }
     ensures others { (boxes : List (Option Rect)) → (other : ℕ) → other ≢ team
-        → Bounds (with_boxes occupancy.old []) other boxes tally.old
-        → OnOk result (Bounds (with_boxes occupancy.new []) other boxes tally.new) }
+        → Bounds (with_boxes occupancy.old []) other boxes counts.old
+        → OnOk result (Bounds (with_boxes occupancy.new []) other boxes counts.new) }
     ensures gains { KeepsMarks occupancy.old occupancy.new }
 {
     for id in sized.cells.cells_of(team) {
-        fit_committed(sized, occupancy, tally, id)?;
+        fit_committed(sized, occupancy, counts, id)?;
     }
     Ok(())
 }
@@ -159,9 +159,9 @@ pub(crate) fn fit_all_committed(
         (committed_of (cells_of sized.now.cells.now team)))) }
     ensures gains { KeepsMarks occupancy.old occupancy.new }
 {
-    let mut tally = occupancy.strip_counts(alloc)?;
+    let mut counts = occupancy.strip_counts(alloc)?;
     for team in 0..team_count(sized.cells.cell_ids()) {
-        fit_team(sized, occupancy, &mut tally, team)?;
+        fit_team(sized, occupancy, &mut counts, team)?;
     }
     Ok(())
 }

@@ -241,24 +241,24 @@ impl Placement {
     /// unspecified.
     pub(crate) fn reserve_change(
         &mut self,
-        tally: &mut StripCounts,
+        counts: &mut StripCounts,
         team: usize,
         change: &Change,
     ) -> Result<(), AllocError>
-        requires { KeepsCapacities tally.old self.old.held.rooms }
-        ensures room { OnOk result (KeepsCapacities tally.new self.new.held.rooms) }
+        requires { KeepsCapacities counts.old self.old.held.rooms }
+        ensures room { OnOk result (KeepsCapacities counts.new self.new.held.rooms) }
         ensures own { (places : Places) → slice_get places change.now.own ≡ Some change.now.from
-            → BoundsAt self.old team places tally.old
-            → OnOk result (BoundsAt self.new team (slice_set places change.now.own change.now.to) tally.new) }
-        ensures others { (places : Places) → (other : ℕ) → other ≢ team → BoundsAt self.old other places tally.old
-            → OnOk result (BoundsAt self.new other places tally.new) }
+            → BoundsAt self.old team places counts.old
+            → OnOk result (BoundsAt self.new team (slice_set places change.now.own change.now.to) counts.new) }
+        ensures others { (places : Places) → (other : ℕ) → other ≢ team → BoundsAt self.old other places counts.old
+            → OnOk result (BoundsAt self.new other places counts.new) }
         ensures same { SameButRooms self.old self.new }
     {
         let sized = SizedCells {
             frame: &self.frame,
             cells: &self.cells,
         };
-        reserve_change(&sized, &mut self.occupancy, tally, team, change)
+        reserve_change(&sized, &mut self.occupancy, counts, team, change)
     }
 
     /// Undoes moves of the team's cells on a list of places, the last one first, and makes room for
@@ -272,23 +272,23 @@ impl Placement {
     /// made.
     pub fn reserve_undo(
         &mut self,
-        tally: &mut StripCounts,
+        counts: &mut StripCounts,
         team: usize,
         places: &mut [PackedPlace],
         moves: &Moves,
     ) -> Result<(), AllocError>
         requires own { All (λ m. m.own < length places.old) moves.now }
-        requires room { KeepsCapacities tally.old self.old.held.rooms }
-        requires bounds { BoundsAt self.old team places.old tally.old }
+        requires room { KeepsCapacities counts.old self.old.held.rooms }
+        requires bounds { BoundsAt self.old team places.old counts.old }
         ensures places { OnOk result (places.new ≡ moves_taken_back moves.now places.old) }
-        ensures room { OnOk result (KeepsCapacities tally.new self.new.held.rooms) }
-        ensures bounds { OnOk result (BoundsAt self.new team places.new tally.new) }
+        ensures room { OnOk result (KeepsCapacities counts.new self.new.held.rooms) }
+        ensures bounds { OnOk result (BoundsAt self.new team places.new counts.new) }
         ensures fits { OnOk result (Fits self.new team places.new) }
-        ensures others { (at : Places) → (other : ℕ) → other ≢ team → BoundsAt self.old other at tally.old
-            → OnOk result (BoundsAt self.new other at tally.new) }
+        ensures others { (at : Places) → (other : ℕ) → other ≢ team → BoundsAt self.old other at counts.old
+            → OnOk result (BoundsAt self.new other at counts.new) }
         ensures same { SameButRooms self.old self.new }
     {
-        fit_moves_back(self, tally, team, places, moves)
+        fit_moves_back(self, counts, team, places, moves)
     }
 
     /// Makes the moves of the team's cells from index `from` on, in their order, and stores in each

@@ -49,7 +49,7 @@ pub(crate) fn apply_in_table(cells: &mut CellTable, team: usize, moves: &mut Mov
     for at in from..moves.as_slice().len() {
         let next = moves.as_slice()[at];
         let was = place_at(cells, team, next.own);
-        put_at(cells, team, next.own, next.old.place());
+        put_at(cells, team, next.own, next.place.place());
         moves.replace(at, was);
     }
 }
@@ -62,6 +62,6 @@ pub(crate) fn revert_in_table(cells: &mut CellTable, team: usize, moves: &Moves)
     let moves = moves.as_slice();
     for at in (0..moves.len()).rev() {
         let last = moves[at];
-        put_at(cells, team, last.own, last.old.place());
+        put_at(cells, team, last.own, last.place.place());
     }
 }

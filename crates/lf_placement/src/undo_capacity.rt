@@ -16,53 +16,53 @@ use std::alloc::AllocError;
 /// `Err` if an allocation fails.
 fn reserve_move_undo(
     placement: &mut Placement,
-    tally: &mut StripCounts,
+    counts: &mut StripCounts,
     team: usize,
     places: &mut [PackedPlace],
     last: &Move,
 ) -> Result<(), AllocError>
     requires own { last.now.own < length places.old }
-    requires room { KeepsCapacities tally.old placement.old.held.rooms }
-    requires bounds { BoundsAt placement.old team places.old tally.old }
+    requires room { KeepsCapacities counts.old placement.old.held.rooms }
+    requires bounds { BoundsAt placement.old team places.old counts.old }
     ensures places { OnOk result (places.new ≡ slice_set places.old last.now.own last.now.old) }
-    ensures room { OnOk result (KeepsCapacities tally.new placement.new.held.rooms) }
-    ensures bounds { OnOk result (BoundsAt placement.new team places.new tally.new) }
-    ensures others { (at : Places) → (other : ℕ) → other ≢ team → BoundsAt placement.old other at tally.old
-        → OnOk result (BoundsAt placement.new other at tally.new) }
+    ensures room { OnOk result (KeepsCapacities counts.new placement.new.held.rooms) }
+    ensures bounds { OnOk result (BoundsAt placement.new team places.new counts.new) }
+    ensures others { (at : Places) → (other : ℕ) → other ≢ team → BoundsAt placement.old other at counts.old
+        → OnOk result (BoundsAt placement.new other at counts.new) }
     ensures same { SameButRooms placement.old placement.new }
 {
     let own = last.own as usize;
     let change = Change {
         own: last.own,
         from: places[own],
-        to: last.old,
+        to: last.place,
     };
-    placement.reserve_change(tally, team, &change)?;
-    places[own] = last.old;
+    placement.reserve_change(counts, team, &change)?;
+    places[own] = last.place;
     Ok(())
 }
 
 /// Undoes each of the moves in the same sense, the last one first. `Err` if an allocation fails.
 pub(crate) fn fit_moves_back(
     placement: &mut Placement,
-    tally: &mut StripCounts,
+    counts: &mut StripCounts,
     team: usize,
     places: &mut [PackedPlace],
     moves: &Moves,
 ) -> Result<(), AllocError>
     requires own { All (λ m. m.own < length places.old) moves.now }
-    requires room { KeepsCapacities tally.old placement.old.held.rooms }
-    requires bounds { BoundsAt placement.old team places.old tally.old }
+    requires room { KeepsCapacities counts.old placement.old.held.rooms }
+    requires bounds { BoundsAt placement.old team places.old counts.old }
     ensures places { OnOk result (places.new ≡ moves_taken_back moves.now places.old) }
-    ensures room { OnOk result (KeepsCapacities tally.new placement.new.held.rooms) }
-    ensures bounds { OnOk result (BoundsAt placement.new team places.new tally.new) }
-    ensures others { (at : Places) → (other : ℕ) → other ≢ team → BoundsAt placement.old other at tally.old
-        → OnOk result (BoundsAt placement.new other at tally.new) }
+    ensures room { OnOk result (KeepsCapacities counts.new placement.new.held.rooms) }
+    ensures bounds { OnOk result (BoundsAt placement.new team places.new counts.new) }
+    ensures others { (at : Places) → (other : ℕ) → other ≢ team → BoundsAt placement.old other at counts.old
+        → OnOk result (BoundsAt placement.new other at counts.new) }
     ensures same { SameButRooms placement.old placement.new }
 {
     let moves = moves.as_slice();
     for at in (0..moves.len()).rev() {
-        reserve_move_undo(placement, tally, team, places, &moves[at])?;
+        reserve_move_undo(placement, counts, team, places, &moves[at])?;
     }
     Ok(())
 }

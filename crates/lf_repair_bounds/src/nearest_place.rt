@@ -87,9 +87,9 @@ fn keeps_rules(lone: &LoneCell<'_>, loaded_place: &Place) -> bool
         (macro_of lone.now.frame.now lone.now.cell.now.mac) loaded_place.now []) None }
 {
     let bare = lone.bare;
-    let plan = IndexedFrame::new(lone.frame, bare.occupancy.index());
+    let frame = IndexedFrame::new(lone.frame, bare.occupancy.index());
     let mac = mac_at(lone.frame, lone.cell.mac);
-    match broken_frame_rule(&plan, lone.cell.team, mac, loaded_place) {
+    match broken_frame_rule(&frame, lone.cell.team, mac, loaded_place) {
         Some(_) => false,
         None => true,
     }

@@ -51,15 +51,15 @@ impl Changes {
     /// Keeps the spans that a cell covers in this gap.
     pub(crate) fn keep_covered(
         &mut self,
-        given: &PlannerInput,
+        input: &PlannerInput,
         gap: &Gap,
         segments: &[PackedSpan],
     ) -> Result<(), AllocError> {
-        let Some(wish) = given.wishes.get(gap.cell.number as usize) else {
+        let Some(wish) = input.cells.get(gap.cell.number as usize) else {
             return Ok(());
         };
         for up in 0..wish.rows {
-            if let Some(covered) = span_above(given, gap, up) {
+            if let Some(covered) = span_above(input, gap, up) {
                 self.keep(covered.span, segments)?;
             }
         }

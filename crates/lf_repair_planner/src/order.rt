@@ -26,14 +26,14 @@ struct Key {
 }
 
 /// The mean width of the cells, at least 1.
-fn mean_width(wishes: &[PlannerCell]) -> u64
+fn mean_width(cells: &[PlannerCell]) -> u64
     ensures { 0 < result }
 {
     let mut sum: u64 = 0;
-    for wish in wishes {
-        sum = sum.saturating_add(wish.width as u64);
+    for cell in cells {
+        sum = sum.saturating_add(cell.width as u64);
     }
-    (sum / (wishes.len() as u64).max(1)).max(1)
+    (sum / (cells.len() as u64).max(1)).max(1)
 }
 
 /// The class of a width: at least four times the mean, at least twice, at least once, or less.
@@ -56,7 +56,7 @@ fn tile_of(coordinate: i32, height: u32) -> i32 {
     tile.clamp(-2_147_483_648, 2_147_483_647) as i32
 }
 
-fn key_of(wish: &PlannerCell, number: u32, away: i64, mean: u64, height: u32) -> Key {
+fn key_of(cell: &PlannerCell, number: u32, away: i64, mean: u64, height: u32) -> Key {
     let nearness = if (height as i64) < away {
         -away.max(0)
     } else {
@@ -64,9 +64,9 @@ fn key_of(wish: &PlannerCell, number: u32, away: i64, mean: u64, height: u32) ->
     };
     Key {
         nearness,
-        class: class_of(wish.width, mean),
-        tile_y: tile_of(wish.y, height),
-        tile_x: tile_of(wish.x, height),
+        class: class_of(cell.width, mean),
+        tile_y: tile_of(cell.y, height),
+        tile_x: tile_of(cell.x, height),
         scattered: number.wrapping_mul(2_654_435_761),
         number,
     }
@@ -84,12 +84,12 @@ impl OrderKeys {
     /// No keys, with room for those of all cells.
     pub(crate) fn with_capacity(
         alloc: Global,
-        given: &PlannerInput,
+        input: &PlannerInput,
     ) -> Result<OrderKeys, AllocError> {
         Ok(OrderKeys {
-            mean: mean_width(given.wishes),
-            height: given.height,
-            keys: Vec::with_capacity(alloc, given.wishes.len())?,
+            mean: mean_width(input.cells),
+            height: input.height,
+            keys: Vec::with_capacity(alloc, input.cells.len())?,
         })
     }
 
@@ -97,10 +97,10 @@ impl OrderKeys {
     pub(crate) fn push(
         &mut self,
         number: u32,
-        wish: &PlannerCell,
+        cell: &PlannerCell,
         away: i64,
     ) -> Result<(), AllocError> {
-        let key = key_of(wish, number, away, self.mean, self.height);
+        let key = key_of(cell, number, away, self.mean, self.height);
         self.keys.push(key)?;
         Ok(())
     }
@@ -128,12 +128,12 @@ struct Width {
 }
 
 /// The numbers of the cells, the widest first.
-pub(crate) fn widest_first(alloc: Global, wishes: &[PlannerCell]) -> Result<Vec<u32>, AllocError> {
-    let mut widths = Vec::with_capacity(alloc, wishes.len())?;
-    for (number, wish) in wishes.iter().enumerate() {
+pub(crate) fn widest_first(alloc: Global, cells: &[PlannerCell]) -> Result<Vec<u32>, AllocError> {
+    let mut widths = Vec::with_capacity(alloc, cells.len())?;
+    for (number, cell) in cells.iter().enumerate() {
         let number = number_of(number);
         widths.push(Width {
-            narrowness: u32::MAX - wish.width,
+            narrowness: u32::MAX - cell.width,
             scattered: number.wrapping_mul(2_654_435_761),
             number,
         })?;

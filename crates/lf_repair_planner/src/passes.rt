@@ -13,19 +13,19 @@ use std::alloc::{AllocError, Global};
 /// The input that all steps read.
 #[derive(Clone, Copy)]
 pub(crate) struct PlannerInput<'a> {
-    pub(crate) land: &'a FreeRows,
+    pub(crate) free_rows: &'a FreeRows,
     /// The position of the row of each span.
     pub(crate) rows: &'a [u32],
-    pub(crate) wishes: &'a [PlannerCell],
+    pub(crate) cells: &'a [PlannerCell],
     pub(crate) height: u32,
 }
 
 /// The position of the row of each span: the last row whose spans begin at the span's position or
 /// in front of it.
-pub(crate) fn rows_of_spans(alloc: Global, land: &FreeRows) -> Result<Vec<u32>, AllocError> {
-    let mut rows = Vec::with_capacity(alloc, land.spans.len())?;
-    for span in 0..land.spans.len() {
-        let after = land.rows.partition_point(|row| row.first <= span);
+pub(crate) fn rows_of_spans(alloc: Global, free_rows: &FreeRows) -> Result<Vec<u32>, AllocError> {
+    let mut rows = Vec::with_capacity(alloc, free_rows.spans.len())?;
+    for span in 0..free_rows.spans.len() {
+        let after = free_rows.rows.partition_point(|row| row.first <= span);
         rows.push(number_of(after.saturating_sub(1)))?;
     }
     Ok(rows)
@@ -35,23 +35,24 @@ impl<'a> PlannerInput<'a> {
     /// The row of the span at this position.
     pub(crate) fn row_of(&self, span: usize) -> Option<PlannerRow> {
         let row = *self.rows.get(span)?;
-        Some(*self.land.rows.get(row as usize)?)
+        Some(*self.free_rows.rows.get(row as usize)?)
     }
 }
 
 /// The displacement of a cell at a site of a span whose row has this y, in database units.
-pub(crate) fn displacement_at_site(wish: &PlannerCell, sites: &FreeSpan, y: i32, at: u32) -> i64 {
+pub(crate) fn displacement_at_site(cell: &PlannerCell, sites: &FreeSpan, y: i32, at: u32) -> i64 {
     let x = (sites.first as i64).saturating_add(sites.pitch().saturating_mul(at as i64));
-    let dx = x.saturating_sub(wish.x as i64).saturating_abs();
-    dx.saturating_add(apart(y, wish.y))
+    let dx = x.saturating_sub(cell.x as i64).saturating_abs();
+    dx.saturating_add(apart(y, cell.y))
 }
 
 /// The displacement of a cell in a gap, in database units.
-pub(crate) fn displacement_at(given: &PlannerInput, wish: &PlannerCell, gap: &Gap) -> i64 {
-    let (Some(sites), Some(row)) = (given.land.spans.get(gap.span), given.row_of(gap.span)) else {
+pub(crate) fn displacement_at(input: &PlannerInput, cell: &PlannerCell, gap: &Gap) -> i64 {
+    let (Some(sites), Some(row)) = (input.free_rows.spans.get(gap.span), input.row_of(gap.span))
+    else {
         return i64::MAX;
     };
-    displacement_at_site(wish, sites, row.y, gap.cell.at)
+    displacement_at_site(cell, sites, row.y, gap.cell.at)
 }
 
 /// The best gap. If it costs more than one and a half rows, the best gap with more cells pushed.
@@ -63,15 +64,15 @@ fn find_gap(
 ) -> Result<Best, AllocError> {
     let best = best_gap(search, limit, curve)?;
     let far = (height as i64) * 3 / 2;
-    if best.cost <= far || search.how.most == 160 {
+    if best.cost <= far || search.limits.most == 160 {
         return Ok(best);
     }
-    let how = SearchLimits {
+    let limits = SearchLimits {
         most: 80,
-        ..*search.how
+        ..*search.limits
     };
     let wider = Search {
-        how: &how,
+        limits: &limits,
         ..*search
     };
     let second = best_gap(&wider, best.cost, curve)?;
@@ -84,20 +85,20 @@ fn find_gap(
 /// The cost of a cell's nearest place in these segments, which have no cells. 0 if there is no such
 /// place.
 pub(crate) fn nearest_alone(
-    given: &PlannerInput,
+    input: &PlannerInput,
     segments: &[PackedSpan],
     number: u32,
-    wish: &PlannerCell,
-    how: &SearchLimits,
+    cell: &PlannerCell,
+    limits: &SearchLimits,
     curve: &mut CostCurve,
 ) -> Result<i64, AllocError> {
     let search = Search {
-        land: given.land,
+        free_rows: input.free_rows,
         segments,
         number,
-        wish,
-        how,
-        height: given.height,
+        wish: cell,
+        limits,
+        height: input.height,
         exact: false,
     };
     let best = best_gap(&search, i64::MAX, curve)?;
@@ -106,26 +107,26 @@ pub(crate) fn nearest_alone(
 
 /// Places one cell after the other where the total displacement grows least.
 pub(crate) fn place_all(
-    given: &PlannerInput,
+    input: &PlannerInput,
     order: &[u32],
-    how: &SearchLimits,
+    limits: &SearchLimits,
     board: &mut PlanState,
     curve: &mut CostCurve,
 ) -> Result<(), AllocError> {
     for number in order {
-        let Some(wish) = given.wishes.get(*number as usize) else {
+        let Some(wish) = input.cells.get(*number as usize) else {
             continue;
         };
         let search = Search {
-            land: given.land,
+            free_rows: input.free_rows,
             segments: board.segments.as_slice(),
             number: *number,
             wish,
-            how,
-            height: given.height,
+            limits,
+            height: input.height,
             exact: false,
         };
-        let best = find_gap(&search, i64::MAX, given.height, curve)?;
+        let best = find_gap(&search, i64::MAX, input.height, curve)?;
         if let Some(gap) = best.gap {
             board.put(&gap)?;
         }
@@ -138,7 +139,7 @@ pub(crate) fn place_all(
 fn place_again(
     search: &LimitedSearch,
     old: Option<Gap>,
-    given: &PlannerInput,
+    input: &PlannerInput,
     board: &mut PlanState,
     curve: &mut CostCurve,
 ) -> Result<(), AllocError> {
@@ -146,15 +147,15 @@ fn place_again(
         board.take(gap);
     }
     let open = Search {
-        land: given.land,
+        free_rows: input.free_rows,
         segments: board.segments.as_slice(),
         number: search.number,
         wish: search.wish,
-        how: search.how,
-        height: given.height,
+        limits: search.limits,
+        height: input.height,
         exact: false,
     };
-    let best = find_gap(&open, search.limit, given.height, curve)?;
+    let best = find_gap(&open, search.limit, input.height, curve)?;
     if let Some(gap) = best.gap {
         return board.put(&gap);
     }
@@ -169,26 +170,26 @@ fn place_again(
 struct LimitedSearch<'a> {
     number: u32,
     wish: &'a PlannerCell,
-    how: &'a SearchLimits,
+    limits: &'a SearchLimits,
     limit: i64,
 }
 
 /// Places each cell again that has no place or a longer displacement than `longer`, in this order.
 pub(crate) fn pass(
-    given: &PlannerInput,
+    input: &PlannerInput,
     order: &[u32],
     longer: i64,
-    how: &SearchLimits,
+    limits: &SearchLimits,
     board: &mut PlanState,
     curve: &mut CostCurve,
 ) -> Result<(), AllocError> {
     for number in order {
-        let Some(wish) = given.wishes.get(*number as usize) else {
+        let Some(wish) = input.cells.get(*number as usize) else {
             continue;
         };
         let old = board.place_of(*number);
         let displacement = match &old {
-            Some(gap) => displacement_at(given, wish, gap),
+            Some(gap) => displacement_at(input, wish, gap),
             None => i64::MAX,
         };
         if old.is_some() && displacement <= longer {
@@ -197,24 +198,24 @@ pub(crate) fn pass(
         let search = LimitedSearch {
             number: *number,
             wish,
-            how,
-            limit: cost_of(displacement, how),
+            limits,
+            limit: cost_of(displacement, limits),
         };
-        place_again(&search, old, given, board, curve)?;
+        place_again(&search, old, input, board, curve)?;
     }
     Ok(())
 }
 
 /// Appends the displacements of the cells of a span whose row has this y.
 fn push_displacements(
-    given: &PlannerInput,
+    input: &PlannerInput,
     sites: &FreeSpan,
     y: i32,
     cells: &[PackedCell],
     displacements: &mut Vec<i64>,
 ) -> Result<(), AllocError> {
     for cell in cells {
-        if let Some(wish) = given.wishes.get(cell.number as usize) {
+        if let Some(wish) = input.cells.get(cell.number as usize) {
             displacements.push(displacement_at_site(wish, sites, y, cell.at))?;
         }
     }
@@ -224,13 +225,13 @@ fn push_displacements(
 /// The displacements of the placed cells, span by span.
 fn all_displacements(
     alloc: Global,
-    given: &PlannerInput,
+    input: &PlannerInput,
     board: &PlanState,
 ) -> Result<Vec<i64>, AllocError> {
-    let mut displacements = Vec::with_capacity(alloc, given.wishes.len())?;
+    let mut displacements = Vec::with_capacity(alloc, input.cells.len())?;
     for (span, segment) in board.segments.iter().enumerate() {
-        if let (Some(sites), Some(row)) = (given.land.spans.get(span), given.row_of(span)) {
-            push_displacements(given, sites, row.y, segment.as_slice(), &mut displacements)?;
+        if let (Some(sites), Some(row)) = (input.free_rows.spans.get(span), input.row_of(span)) {
+            push_displacements(input, sites, row.y, segment.as_slice(), &mut displacements)?;
         }
     }
     Ok(displacements)
@@ -240,11 +241,11 @@ fn all_displacements(
 /// but at most an eighth of all.
 pub(crate) fn long_displacement(
     alloc: Global,
-    given: &PlannerInput,
+    input: &PlannerInput,
     board: &PlanState,
     fewest: usize,
 ) -> Result<i64, AllocError> {
-    let mut ways = all_displacements(alloc, given, board)?;
+    let mut ways = all_displacements(alloc, input, board)?;
     ways.sort_unstable();
     let last = ways.len().saturating_sub(1);
     let longest = (last / 1000).max(fewest).min(last / 8);
@@ -267,14 +268,14 @@ pub(crate) struct PlanCost {
 
 /// Counts the cells of a span whose row has this y as placed.
 fn add_cells(
-    given: &PlannerInput,
+    input: &PlannerInput,
     sites: &FreeSpan,
     y: i32,
     cells: &[PackedCell],
     worth: &mut PlanCost,
 ) {
     for cell in cells {
-        if let Some(wish) = given.wishes.get(cell.number as usize) {
+        if let Some(wish) = input.cells.get(cell.number as usize) {
             let way = displacement_at_site(wish, sites, y, cell.at);
             worth.left = worth.left.saturating_sub(1);
             worth.longest = worth.longest.max(way);
@@ -284,15 +285,15 @@ fn add_cells(
 }
 
 /// The cost of the current places.
-pub(crate) fn cost_of_plan(given: &PlannerInput, board: &PlanState) -> PlanCost {
+pub(crate) fn cost_of_plan(input: &PlannerInput, board: &PlanState) -> PlanCost {
     let mut worth = PlanCost {
-        left: given.wishes.len() as u64,
+        left: input.cells.len() as u64,
         longest: 0,
         sum: 0,
     };
     for (span, segment) in board.segments.iter().enumerate() {
-        if let (Some(sites), Some(row)) = (given.land.spans.get(span), given.row_of(span)) {
-            add_cells(given, sites, row.y, segment.as_slice(), &mut worth);
+        if let (Some(sites), Some(row)) = (input.free_rows.spans.get(span), input.row_of(span)) {
+            add_cells(input, sites, row.y, segment.as_slice(), &mut worth);
         }
     }
     worth

@@ -55,19 +55,19 @@ fn length_of(count: u32, step: u32) -> u64
 }
 
 /// Gives the cell at position `own` this spot.
-fn set_spot(spots: &mut Vec<Option<PlannedSite>>, own: usize, spot: PlannedSite)
-    requires { own < vec_len spots.old }
-    ensures { spots.new.items ≡ set spots.old.items own (Some spot) }
+fn set_spot(planned: &mut Vec<Option<PlannedSite>>, own: usize, spot: PlannedSite)
+    requires { own < vec_len planned.old }
+    ensures { planned.new.items ≡ set planned.old.items own (Some spot) }
 {
-    spots[own] = Some(spot);
+    planned[own] = Some(spot);
 }
 
 /// Whether the cell at position `own` exists and has no spot.
-fn is_open(spots: &[Option<PlannedSite>], own: usize) -> bool
-    ensures is { IsTrue result → slice_get spots.now own ≡ Some None }
-    ensures within { IsTrue result → own < length spots.now }
+fn is_open(planned: &[Option<PlannedSite>], own: usize) -> bool
+    ensures is { IsTrue result → slice_get planned.now own ≡ Some None }
+    ensures within { IsTrue result → own < length planned.now }
 {
-    match spots.get(own) {
+    match planned.get(own) {
         Some(spot) => spot.is_none(),
         None => false,
     }
@@ -77,83 +77,83 @@ fn is_open(spots: &[Option<PlannedSite>], own: usize) -> bool
 /// A cell is skipped if it is not one of the plan, overlaps another, or reaches past the span's
 /// end, and if the span's position has more than 32 bits.
 fn note_cell(
-    spots: &mut Vec<Option<PlannedSite>>,
-    given: &PlannerInput,
+    planned: &mut Vec<Option<PlannedSite>>,
+    input: &PlannerInput,
     span: usize,
     cell: &PackedCell,
     free: u64,
 ) -> u64
-    requires { IsFilledTo given.now.land.now.spans.items given.now.wishes.now span free spots.old.items }
-    ensures filled { IsFilledTo given.now.land.now.spans.items given.now.wishes.now span result spots.new.items }
-    ensures count { vec_len spots.new ≡ vec_len spots.old }
+    requires { IsFilledTo input.now.free_rows.now.spans.items input.now.cells.now span free planned.old.items }
+    ensures filled { IsFilledTo input.now.free_rows.now.spans.items input.now.cells.now span result planned.new.items }
+    ensures count { vec_len planned.new ≡ vec_len planned.old }
 {
     let own = cell.number as usize;
-    let (Some(sites), Some(wish)) = (given.land.spans.get(span), given.wishes.get(own)) else {
+    let (Some(sites), Some(wish)) = (input.free_rows.spans.get(span), input.cells.get(own)) else {
         return free;
     };
     let start = length_of(cell.at, sites.step);
     let end = start + wish.width as u64;
-    if start < free || length_of(sites.count, sites.step) < end || !is_open(spots, own) {
+    if start < free || length_of(sites.count, sites.step) < end || !is_open(planned, own) {
         return free;
     }
     let Ok(span) = u32::try_from(span) else {
         return free;
     };
-    set_spot(spots, own, PlannedSite { span, at: cell.at });
+    set_spot(planned, own, PlannedSite { span, at: cell.at });
     end
 }
 
 /// Records the spots of the cells of a span.
 fn note_span(
-    spots: &mut Vec<Option<PlannedSite>>,
-    given: &PlannerInput,
+    planned: &mut Vec<Option<PlannedSite>>,
+    input: &PlannerInput,
     span: usize,
     cells: &[PackedCell],
 )
-    requires { IsFilledTo given.now.land.now.spans.items given.now.wishes.now span 0 spots.old.items }
-    ensures filled { IsFilledTo given.now.land.now.spans.items given.now.wishes.now (span + 1) 0 spots.new.items }
-    ensures count { vec_len spots.new ≡ vec_len spots.old }
+    requires { IsFilledTo input.now.free_rows.now.spans.items input.now.cells.now span 0 planned.old.items }
+    ensures filled { IsFilledTo input.now.free_rows.now.spans.items input.now.cells.now (span + 1) 0 planned.new.items }
+    ensures count { vec_len planned.new ≡ vec_len planned.old }
 {
     let mut free = 0;
     for cell in cells {
-        free = note_cell(spots, given, span, cell, free);
+        free = note_cell(planned, input, span, cell, free);
     }
 }
 
 /// Records the spots of the cells of all spans.
-fn note_spans(spots: &mut Vec<Option<PlannedSite>>, given: &PlannerInput, segments: &[PackedSpan])
-    requires { IsFilledTo given.now.land.now.spans.items given.now.wishes.now 0 0 spots.old.items }
-    ensures plan { IsPlan given.now.land.now.spans.items given.now.wishes.now spots.new.items }
-    ensures count { vec_len spots.new ≡ vec_len spots.old }
+fn note_spans(planned: &mut Vec<Option<PlannedSite>>, input: &PlannerInput, segments: &[PackedSpan])
+    requires { IsFilledTo input.now.free_rows.now.spans.items input.now.cells.now 0 0 planned.old.items }
+    ensures plan { IsPlan input.now.free_rows.now.spans.items input.now.cells.now planned.new.items }
+    ensures count { vec_len planned.new ≡ vec_len planned.old }
 {
     for (span, segment) in segments.iter().enumerate() {
-        note_span(spots, given, span, segment.as_slice());
+        note_span(planned, input, span, segment.as_slice());
     }
 }
 
 /// The spot of each cell. The list of the state's spots is used again.
 pub(crate) fn spots_of(
-    given: &PlannerInput,
+    input: &PlannerInput,
     board: PlanState,
 ) -> Result<Vec<Option<PlannedSite>>, AllocError>
-    ensures plan { IfOk result (λ spots. IsPlan given.now.land.now.spans.items given.now.wishes.now spots.items) }
-    ensures count { IfOk result (λ spots. vec_len spots ≡ length given.now.wishes.now) }
+    ensures plan { IfOk result (λ spots. IsPlan input.now.free_rows.now.spans.items input.now.cells.now spots.items) }
+    ensures count { IfOk result (λ spots. vec_len spots ≡ length input.now.cells.now) }
 {
     let PlanState {
         segments,
-        mut spots,
+        planned: mut spots,
     } = board;
     spots.clear();
-    spots.resize(given.wishes.len(), None)?;
-    note_spans(&mut spots, given, segments.as_slice());
+    spots.resize(input.cells.len(), None)?;
+    note_spans(&mut spots, input, segments.as_slice());
     Ok(spots)
 }
 
 /// The least distance of two consecutive rows. 1 if there are no two rows.
-fn row_height(land: &FreeRows) -> u32 {
+fn row_height(free_rows: &FreeRows) -> u32 {
     let mut height = u32::MAX;
     let mut last = None;
-    for row in &land.rows {
+    for row in &free_rows.rows {
         if let Some(y) = last {
             let step = row.y.abs_diff(y);
             if 0 < step {
@@ -166,14 +166,21 @@ fn row_height(land: &FreeRows) -> u32 {
 }
 
 /// The first order of the cells: those that are far from any place come first.
-fn first_order(alloc: Global, given: &PlannerInput) -> Result<Vec<u32>, AllocError> {
-    let segments = empty_segments(alloc, given.land)?;
-    let how = initial_limits(given.height);
+fn first_order(alloc: Global, input: &PlannerInput) -> Result<Vec<u32>, AllocError> {
+    let segments = empty_segments(alloc, input.free_rows)?;
+    let limits = initial_limits(input.height);
     let mut curve = CostCurve::new(alloc);
-    let mut keys = OrderKeys::with_capacity(alloc, given)?;
-    for (number, wish) in given.wishes.iter().enumerate() {
+    let mut keys = OrderKeys::with_capacity(alloc, input)?;
+    for (number, wish) in input.cells.iter().enumerate() {
         let number = number_of(number);
-        let away = nearest_alone(given, segments.as_slice(), number, wish, &how, &mut curve)?;
+        let away = nearest_alone(
+            input,
+            segments.as_slice(),
+            number,
+            wish,
+            &limits,
+            &mut curve,
+        )?;
         keys.push(number, wish, away)?;
     }
     drop(segments);
@@ -190,12 +197,12 @@ fn goes_far(worth: &PlanCost, height: u32) -> bool {
 
 /// The spots of the better of two plans; of the first if their costs are equal.
 fn better(first: ScoredPlan, second: ScoredPlan) -> Vec<Option<PlannedSite>>
-    ensures { (result ≡ first.spots) ⊎ (result ≡ second.spots) }
+    ensures { (result ≡ first.planned) ⊎ (result ≡ second.planned) }
 {
     if second.worth < first.worth {
-        second.spots
+        second.planned
     } else {
-        first.spots
+        first.planned
     }
 }
 
@@ -206,27 +213,27 @@ fn better(first: ScoredPlan, second: ScoredPlan) -> Vec<Option<PlannedSite>>
 /// its span there, and two cells of one span lie apart. `Err` if an allocation fails.
 pub fn plan_cells(
     alloc: Global,
-    land: &FreeRows,
-    wishes: &[PlannerCell],
-    steps: &PlanOptions,
+    free_rows: &FreeRows,
+    cells: &[PlannerCell],
+    options: &PlanOptions,
 ) -> Result<Vec<Option<PlannedSite>>, AllocError>
-    ensures plan { IfOk result (λ spots. IsPlan land.now.spans.items wishes.now spots.items) }
-    ensures count { IfOk result (λ spots. vec_len spots ≡ length wishes.now) }
+    ensures plan { IfOk result (λ spots. IsPlan free_rows.now.spans.items cells.now spots.items) }
+    ensures count { IfOk result (λ spots. vec_len spots ≡ length cells.now) }
 {
-    let height = row_height(land);
-    let rows = rows_of_spans(alloc, land)?;
-    let given = PlannerInput {
-        land,
+    let height = row_height(free_rows);
+    let rows = rows_of_spans(alloc, free_rows)?;
+    let input = PlannerInput {
+        free_rows,
         rows: rows.as_slice(),
-        wishes,
+        cells,
         height,
     };
-    let order = first_order(alloc, &given)?;
-    let first = try_order(alloc, &given, order.as_slice(), steps)?;
-    if !steps.two_orders || !goes_far(&first.worth, height) {
-        return Ok(first.spots);
+    let order = first_order(alloc, &input)?;
+    let first = try_order(alloc, &input, order.as_slice(), options)?;
+    if !options.two_orders || !goes_far(&first.worth, height) {
+        return Ok(first.planned);
     }
-    let order = widest_first(alloc, wishes)?;
-    let second = try_order(alloc, &given, order.as_slice(), steps)?;
+    let order = widest_first(alloc, cells)?;
+    let second = try_order(alloc, &input, order.as_slice(), options)?;
     Ok(better(first, second))
 }

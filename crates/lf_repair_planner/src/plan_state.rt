@@ -25,7 +25,7 @@ pub(crate) struct Gap {
 #[derive(Drop)]
 pub(crate) struct PlanState {
     pub(crate) segments: Vec<PackedSpan>,
-    pub(crate) spots: Vec<Option<PlannedSite>>,
+    pub(crate) planned: Vec<Option<PlannedSite>>,
 }
 
 /// The greatest number of cells in one span.
@@ -34,10 +34,10 @@ const MOST: usize = 1 << 29;
 /// An empty segment for each span.
 pub(crate) fn empty_segments(
     alloc: Global,
-    land: &FreeRows,
+    free_rows: &FreeRows,
 ) -> Result<Vec<PackedSpan>, AllocError> {
-    let mut segments = Vec::with_capacity(alloc, land.spans.len())?;
-    for span in &land.spans {
+    let mut segments = Vec::with_capacity(alloc, free_rows.spans.len())?;
+    for span in &free_rows.spans {
         segments.push(PackedSpan::new(alloc, span.count))?;
     }
     Ok(segments)
@@ -66,12 +66,12 @@ impl PlanState {
     /// The state in which no cell of `count` has a place.
     pub(crate) fn new(
         alloc: Global,
-        land: &FreeRows,
+        free_rows: &FreeRows,
         count: usize,
     ) -> Result<PlanState, AllocError> {
         Ok(PlanState {
-            segments: empty_segments(alloc, land)?,
-            spots: vec![in alloc; None; count]?,
+            segments: empty_segments(alloc, free_rows)?,
+            planned: vec![in alloc; None; count]?,
         })
     }
 
@@ -83,8 +83,8 @@ impl PlanState {
         if !put_in(segment, gap.gap, gap.cell)? {
             return Ok(());
         }
-        if let Some(spot) = self.spots.get_mut(gap.cell.number as usize) {
-            *spot = Some(PlannedSite {
+        if let Some(planned) = self.planned.get_mut(gap.cell.number as usize) {
+            *planned = Some(PlannedSite {
                 span: number_of(gap.span),
                 at: gap.cell.at,
             });
@@ -94,10 +94,10 @@ impl PlanState {
 
     /// The gap that a cell would leave. `None` if it has no place.
     pub(crate) fn place_of(&self, number: u32) -> Option<Gap> {
-        let spot = (*self.spots.get(number as usize)?)?;
-        let span = spot.span as usize;
+        let planned = (*self.planned.get(number as usize)?)?;
+        let span = planned.span as usize;
         let segment = self.segments.get(span)?;
-        let (gap, cell) = find_in(segment, number, spot.at)?;
+        let (gap, cell) = find_in(segment, number, planned.at)?;
         Some(Gap {
             span,
             gap,
@@ -117,8 +117,8 @@ impl PlanState {
 
     /// Gives a cell this place, or none, without changing the spans.
     pub(crate) fn set_place(&mut self, number: u32, place: Option<Gap>) {
-        if let Some(spot) = self.spots.get_mut(number as usize) {
-            *spot = match place {
+        if let Some(planned) = self.planned.get_mut(number as usize) {
+            *planned = match place {
                 Some(gap) => Some(PlannedSite {
                     span: number_of(gap.span),
                     at: gap.cell.at,
@@ -129,15 +129,15 @@ impl PlanState {
     }
 
     /// Inserts a cell, of one row or several, in a gap that was found for it.
-    pub(crate) fn put_cell(&mut self, given: &PlannerInput, gap: &Gap) -> Result<(), AllocError> {
-        let Some(wish) = given.wishes.get(gap.cell.number as usize) else {
+    pub(crate) fn put_cell(&mut self, input: &PlannerInput, gap: &Gap) -> Result<(), AllocError> {
+        let Some(wish) = input.cells.get(gap.cell.number as usize) else {
             return Ok(());
         };
         if wish.rows <= 1 {
             return self.put(gap);
         }
         for up in 0..wish.rows {
-            if let Some(covered) = span_above(given, gap, up) {
+            if let Some(covered) = span_above(input, gap, up) {
                 if let Some(segment) = self.segments.get_mut(covered.span) {
                     let own = gap_at(segment, &gap.cell, gap.aim, covered.shift);
                     put_in(segment, own, cell_in(&gap.cell, &covered, up))?;
@@ -149,13 +149,13 @@ impl PlanState {
     }
 
     /// Removes the cell of a gap, of one row or several.
-    pub(crate) fn take_cell(&mut self, given: &PlannerInput, gap: &Gap) {
-        let Some(wish) = given.wishes.get(gap.cell.number as usize) else {
+    pub(crate) fn take_cell(&mut self, input: &PlannerInput, gap: &Gap) {
+        let Some(wish) = input.cells.get(gap.cell.number as usize) else {
             return;
         };
         self.set_place(gap.cell.number, None);
         for up in 0..wish.rows {
-            if let Some(covered) = span_above(given, gap, up) {
+            if let Some(covered) = span_above(input, gap, up) {
                 if let Some(segment) = self.segments.get_mut(covered.span) {
                     let listed = cell_in(&gap.cell, &covered, up);
                     if let Some(own) = segment.find(listed.number, listed.at) {
@@ -170,19 +170,19 @@ impl PlanState {
     /// place, and searches push none farther.
     pub(crate) fn with_spots(
         alloc: Global,
-        given: &PlannerInput,
-        spots: &[Option<PlannedSite>],
+        input: &PlannerInput,
+        planned: &[Option<PlannedSite>],
         reach: i64,
     ) -> Result<PlanState, AllocError> {
-        let mut state = PlanState::new(alloc, given.land, given.wishes.len())?;
-        for (number, (wish, spot)) in given.wishes.iter().zip(spots.iter()).enumerate() {
+        let mut state = PlanState::new(alloc, input.free_rows, input.cells.len())?;
+        for (number, (wish, spot)) in input.cells.iter().zip(planned.iter()).enumerate() {
             let Some(spot) = spot else {
                 continue;
             };
             let span = spot.span as usize;
             let (Some(sites), Some(row), Some(segment)) = (
-                given.land.spans.get(span),
-                given.row_of(span),
+                input.free_rows.spans.get(span),
+                input.row_of(span),
                 state.segments.get(span),
             ) else {
                 continue;
@@ -200,7 +200,7 @@ impl PlanState {
                 cell,
                 aim: spot.at,
             };
-            state.put_cell(given, &gap)?;
+            state.put_cell(input, &gap)?;
         }
         Ok(state)
     }

@@ -73,32 +73,32 @@ struct TryLimits {
 }
 
 /// The cost of a cell's displacement at a place.
-fn cost_at(given: &PlannerInput, number: u32, place: Option<Gap>, how: &SearchLimits) -> i64 {
-    let (Some(wish), Some(gap)) = (given.wishes.get(number as usize), place) else {
+fn cost_at(input: &PlannerInput, number: u32, place: Option<Gap>, limits: &SearchLimits) -> i64 {
+    let (Some(wish), Some(gap)) = (input.cells.get(number as usize), place) else {
         return NO_PLACE;
     };
-    cost_of(displacement_at(given, wish, &gap), how).saturating_mul(wish.factor as i64)
+    cost_of(displacement_at(input, wish, &gap), limits).saturating_mul(wish.factor as i64)
 }
 
 /// The cost of all cells.
-fn total_cost(given: &PlannerInput, state: &PlanState, how: &SearchLimits) -> i64 {
+fn total_cost(input: &PlannerInput, state: &PlanState, limits: &SearchLimits) -> i64 {
     let mut total = 0i64;
-    for number in 0..given.wishes.len() {
+    for number in 0..input.cells.len() {
         let number = number_of(number);
-        total = total.saturating_add(cost_at(given, number, state.place_of(number), how));
+        total = total.saturating_add(cost_at(input, number, state.place_of(number), limits));
     }
     total
 }
 
 /// Adds a cell to those of a try. Large cells come first, more or less, or any order is as good.
 fn add_tried(
-    given: &PlannerInput,
+    input: &PlannerInput,
     state: &PlanState,
     number: u32,
     by_size: bool,
     work: &mut Workspace,
 ) -> Result<(), AllocError> {
-    let area = match given.wishes.get(number as usize) {
+    let area = match input.cells.get(number as usize) {
         Some(wish) => (wish.width as u64).saturating_mul(wish.rows as u64),
         None => 0,
     };
@@ -118,14 +118,14 @@ fn add_tried(
 
 /// Chooses the cells of a try: this one and some of the pool.
 fn choose_cells(
-    given: &PlannerInput,
+    input: &PlannerInput,
     state: &PlanState,
     number: u32,
     work: &mut Workspace,
 ) -> Result<(), AllocError> {
     let by_size = work.random.below(2) == 0;
     work.tried.clear();
-    add_tried(given, state, number, by_size, work)?;
+    add_tried(input, state, number, by_size, work)?;
     for _ in 0..1 + work.random.below(MOST_OTHERS) {
         let count = work.pool.len().min(1_000_000);
         if count == 0 {
@@ -133,31 +133,31 @@ fn choose_cells(
         }
         let position = work.random.below(count as u32) as usize;
         let other = work.pool.swap_remove(position);
-        add_tried(given, state, other, by_size, work)?;
+        add_tried(input, state, other, by_size, work)?;
     }
     Ok(())
 }
 
 /// The cost of the chosen cells at their places.
-fn cost_of_tried(given: &PlannerInput, tried: &[TriedCell], how: &SearchLimits) -> i64 {
+fn cost_of_tried(input: &PlannerInput, tried: &[TriedCell], limits: &SearchLimits) -> i64 {
     let mut cost = 0i64;
     for cell in tried {
-        cost = cost.saturating_add(cost_at(given, cell.number, cell.place, how));
+        cost = cost.saturating_add(cost_at(input, cell.number, cell.place, limits));
     }
     cost
 }
 
 /// Takes the chosen cells out of the plan.
 fn take_tried(
-    given: &PlannerInput,
+    input: &PlannerInput,
     state: &mut PlanState,
     tried: &[TriedCell],
     changes: &mut Changes,
 ) -> Result<(), AllocError> {
     for cell in tried {
         if let Some(gap) = &cell.place {
-            changes.keep_covered(given, gap, state.segments.as_slice())?;
-            state.take_cell(given, gap);
+            changes.keep_covered(input, gap, state.segments.as_slice())?;
+            state.take_cell(input, gap);
         }
     }
     Ok(())
@@ -165,7 +165,7 @@ fn take_tried(
 
 /// The best gap for a cell, if it costs less than the limit.
 fn find_gap(
-    given: &PlannerInput,
+    input: &PlannerInput,
     state: &PlanState,
     number: u32,
     limits: &TryLimits,
@@ -176,16 +176,16 @@ fn find_gap(
         cost: limit,
         gap: None,
     };
-    let Some(wish) = given.wishes.get(number as usize) else {
+    let Some(wish) = input.cells.get(number as usize) else {
         return Ok(none);
     };
     let search = Search {
-        land: given.land,
+        free_rows: input.free_rows,
         segments: state.segments.as_slice(),
         number,
         wish,
-        how: &limits.search,
-        height: given.height,
+        limits: &limits.search,
+        height: input.height,
         exact: true,
     };
     best_gap(&search, limit, curve)
@@ -194,7 +194,7 @@ fn find_gap(
 /// Inserts the chosen cells again, one after the other. Returns false if they cost as much as the
 /// limit.
 fn insert_tried(
-    given: &PlannerInput,
+    input: &PlannerInput,
     state: &mut PlanState,
     limits: &TryLimits,
     limit: i64,
@@ -202,13 +202,13 @@ fn insert_tried(
 ) -> Result<bool, AllocError> {
     let mut limit = limit;
     for cell in &work.tried {
-        let best = find_gap(given, state, cell.number, limits, limit, &mut work.curve)?;
+        let best = find_gap(input, state, cell.number, limits, limit, &mut work.curve)?;
         let Some(gap) = best.gap else {
             return Ok(false);
         };
         work.changes
-            .keep_covered(given, &gap, state.segments.as_slice())?;
-        state.put_cell(given, &gap)?;
+            .keep_covered(input, &gap, state.segments.as_slice())?;
+        state.put_cell(input, &gap)?;
         limit = limit.saturating_sub(best.cost);
     }
     Ok(true)
@@ -216,7 +216,7 @@ fn insert_tried(
 
 /// Makes a try around a cell, which may raise the cost by less than `slack`.
 fn try_once(
-    given: &PlannerInput,
+    input: &PlannerInput,
     state: &mut PlanState,
     limits: &TryLimits,
     number: u32,
@@ -225,23 +225,23 @@ fn try_once(
 ) -> Result<(), AllocError> {
     let place = state.place_of(number);
     list_window(
-        given,
+        input,
         state,
         number,
         place,
         &mut work.random,
         &mut work.pool,
     )?;
-    choose_cells(given, state, number, work)?;
-    let cost = cost_of_tried(given, work.tried.as_slice(), &limits.search);
+    choose_cells(input, state, number, work)?;
+    let cost = cost_of_tried(input, work.tried.as_slice(), &limits.search);
     if cost < limits.pitch {
         return Ok(());
     }
     work.tried.sort_unstable_by_key(|cell| cell.key);
     work.changes.clear();
-    take_tried(given, state, work.tried.as_slice(), &mut work.changes)?;
+    take_tried(input, state, work.tried.as_slice(), &mut work.changes)?;
     let limit = cost.saturating_add(slack);
-    if insert_tried(given, state, limits, limit, work)? {
+    if insert_tried(input, state, limits, limit, work)? {
         return Ok(());
     }
     work.changes.take_back(state.segments.as_mut_slice());
@@ -276,7 +276,7 @@ fn heat_at(turn: u64, tries: u64, pitch: i64) -> i64 {
 /// Makes all tries. First each cell without a place has one, or up to twenty if a reach is given.
 fn make_tries(
     alloc: Global,
-    given: &PlannerInput,
+    input: &PlannerInput,
     options: &RecreateOptions<'_>,
     limits: &TryLimits,
     state: &mut PlanState,
@@ -298,7 +298,7 @@ fn make_tries(
     for _ in 0..rounds {
         for number in options.centers {
             if state.place_of(*number).is_none() {
-                try_once(given, state, limits, *number, lowest, &mut work)?;
+                try_once(input, state, limits, *number, lowest, &mut work)?;
             }
         }
     }
@@ -306,7 +306,7 @@ fn make_tries(
         let Some(number) = options.centers.get(work.random.below(count) as usize) else {
             continue;
         };
-        let cost = cost_at(given, *number, state.place_of(*number), &limits.search);
+        let cost = cost_at(input, *number, state.place_of(*number), &limits.search);
         if cost < limits.pitch && work.random.below(4) != 0 {
             continue;
         }
@@ -316,35 +316,35 @@ fn make_tries(
             0
         };
         let slack = random_slack(heat, &mut work.random).saturating_add(lowest);
-        try_once(given, state, limits, *number, slack, &mut work)?;
+        try_once(input, state, limits, *number, slack, &mut work)?;
     }
     Ok(())
 }
 
 /// The displacement of a cell at a site of a plan. `None` if there is no such site.
 fn displacement_at_start(
-    given: &PlannerInput,
-    wish: &PlannerCell,
+    input: &PlannerInput,
+    cell: &PlannerCell,
     start: Option<PlannedSite>,
 ) -> Option<i64> {
     let site = start?;
     let span = site.span as usize;
-    let sites = given.land.spans.get(span)?;
-    let row = given.row_of(span)?;
-    Some(displacement_at_site(wish, sites, row.y, site.at))
+    let sites = input.free_rows.spans.get(span)?;
+    let row = input.row_of(span)?;
+    Some(displacement_at_site(cell, sites, row.y, site.at))
 }
 
 /// The longest displacement that a search may give to a cell: at most the longest of the start, if
 /// each cell has a place there within reach.
 fn reach_of(
-    given: &PlannerInput,
+    input: &PlannerInput,
     starts: &[Option<PlannedSite>],
     options: &RecreateOptions<'_>,
 ) -> i64 {
     let reach = options.reach.unwrap_or(i64::MAX);
     let mut longest = 0;
-    for (wish, start) in given.wishes.iter().zip(starts.iter()) {
-        match displacement_at_start(given, wish, *start) {
+    for (wish, start) in input.cells.iter().zip(starts.iter()) {
+        match displacement_at_start(input, wish, *start) {
             Some(displacement) => longest = longest.max(displacement),
             None => return reach,
         }
@@ -355,30 +355,30 @@ fn reach_of(
 /// The better of the start and of the state after all tries.
 fn improved_state(
     alloc: Global,
-    given: &PlannerInput,
+    input: &PlannerInput,
     starts: &[Option<PlannedSite>],
     options: &RecreateOptions<'_>,
 ) -> Result<PlanState, AllocError> {
-    let reach = reach_of(given, starts, options);
-    let mut state = PlanState::with_spots(alloc, given, starts, reach)?;
+    let reach = reach_of(input, starts, options);
+    let mut state = PlanState::with_spots(alloc, input, starts, reach)?;
     let limits = TryLimits {
         search: SearchLimits {
             gaps: 1,
             most: 10,
-            near: long_displacement(alloc, given, &state, 0)?,
+            near: long_displacement(alloc, input, &state, 0)?,
             weight: 4,
             reach,
         },
-        pitch: match given.land.spans.first() {
+        pitch: match input.free_rows.spans.first() {
             Some(span) => span.pitch(),
             None => 1,
         },
         lowers: options.lowers,
     };
-    let before = total_cost(given, &state, &limits.search);
-    make_tries(alloc, given, options, &limits, &mut state)?;
-    if before < total_cost(given, &state, &limits.search) {
-        return PlanState::with_spots(alloc, given, starts, reach);
+    let before = total_cost(input, &state, &limits.search);
+    make_tries(alloc, input, options, &limits, &mut state)?;
+    if before < total_cost(input, &state, &limits.search) {
+        return PlanState::with_spots(alloc, input, starts, reach);
     }
     Ok(state)
 }
@@ -389,21 +389,21 @@ fn improved_state(
 /// displacements count more. `Err` if an allocation fails.
 pub fn recreate_plan(
     alloc: Global,
-    land: &FreeRows,
-    wishes: &[PlannerCell],
+    free_rows: &FreeRows,
+    cells: &[PlannerCell],
     starts: &[Option<PlannedSite>],
     options: &RecreateOptions<'_>,
 ) -> Result<Vec<Option<PlannedSite>>, AllocError>
-    ensures plan { IfOk result (λ spots. IsPlan land.now.spans.items wishes.now spots.items) }
-    ensures count { IfOk result (λ spots. vec_len spots ≡ length wishes.now) }
+    ensures plan { IfOk result (λ spots. IsPlan free_rows.now.spans.items cells.now spots.items) }
+    ensures count { IfOk result (λ spots. vec_len spots ≡ length cells.now) }
 {
-    let rows = rows_of_spans(alloc, land)?;
-    let given = PlannerInput {
-        land,
+    let rows = rows_of_spans(alloc, free_rows)?;
+    let input = PlannerInput {
+        free_rows,
         rows: rows.as_slice(),
-        wishes,
+        cells,
         height: options.height,
     };
-    let state = improved_state(alloc, &given, starts, options)?;
-    spots_of(&given, state)
+    let state = improved_state(alloc, &input, starts, options)?;
+    spots_of(&input, state)
 }

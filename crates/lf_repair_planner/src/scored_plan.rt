@@ -14,7 +14,7 @@ use std::alloc::{AllocError, Global};
 /// A plan and its cost.
 #[derive(Drop)]
 pub(crate) struct ScoredPlan {
-    pub(crate) spots: Vec<Option<PlannedSite>>,
+    pub(crate) planned: Vec<Option<PlannedSite>>,
     pub(crate) worth: PlanCost,
 }
 
@@ -33,17 +33,17 @@ pub(crate) fn initial_limits(height: u32) -> SearchLimits {
 /// cells exchange their places.
 fn improve(
     alloc: Global,
-    given: &PlannerInput,
+    input: &PlannerInput,
     order: &[u32],
-    steps: &PlanOptions,
+    options: &PlanOptions,
     board: &mut PlanState,
 ) -> Result<(), AllocError> {
     let mut curve = CostCurve::new(alloc);
-    let how = initial_limits(given.height);
-    for _ in 0..steps.passes {
-        pass(given, order, 0, &how, board, &mut curve)?;
+    let limits = initial_limits(input.height);
+    for _ in 0..options.passes {
+        pass(input, order, 0, &limits, board, &mut curve)?;
     }
-    let long = long_displacement(alloc, given, board, 8)?;
+    let long = long_displacement(alloc, input, board, 8)?;
     let last = SearchLimits {
         gaps: 12,
         most: 160,
@@ -51,45 +51,45 @@ fn improve(
         weight: 10,
         reach: i64::MAX,
     };
-    for _ in 0..steps.rounds {
-        pass(given, order, long, &last, board, &mut curve)?;
+    for _ in 0..options.rounds {
+        pass(input, order, long, &last, board, &mut curve)?;
     }
-    swap_cells(given, order, &last, board);
+    swap_cells(input, order, &last, board);
     Ok(())
 }
 
 /// The state after all cells are placed in turn and their places improved.
 fn placed_state(
     alloc: Global,
-    given: &PlannerInput,
+    input: &PlannerInput,
     order: &[u32],
-    steps: &PlanOptions,
+    options: &PlanOptions,
 ) -> Result<PlanState, AllocError> {
     let mut curve = CostCurve::new(alloc);
-    let mut board = PlanState::new(alloc, given.land, given.wishes.len())?;
+    let mut board = PlanState::new(alloc, input.free_rows, input.cells.len())?;
     place_all(
-        given,
+        input,
         order,
-        &initial_limits(given.height),
+        &initial_limits(input.height),
         &mut board,
         &mut curve,
     )?;
-    improve(alloc, given, order, steps, &mut board)?;
+    improve(alloc, input, order, options, &mut board)?;
     Ok(board)
 }
 
 /// The plan by this order of the cells.
 pub(crate) fn try_order(
     alloc: Global,
-    given: &PlannerInput,
+    input: &PlannerInput,
     order: &[u32],
-    steps: &PlanOptions,
+    options: &PlanOptions,
 ) -> Result<ScoredPlan, AllocError>
-    ensures plan { IfOk result (λ tried. IsPlan given.now.land.now.spans.items given.now.wishes.now tried.spots.items) }
-    ensures count { IfOk result (λ tried. vec_len tried.spots ≡ length given.now.wishes.now) }
+    ensures plan { IfOk result (λ tried. IsPlan input.now.free_rows.now.spans.items input.now.cells.now tried.planned.items) }
+    ensures count { IfOk result (λ tried. vec_len tried.planned ≡ length input.now.cells.now) }
 {
-    let board = placed_state(alloc, given, order, steps)?;
-    let worth = cost_of_plan(given, &board);
-    let spots = spots_of(given, board)?;
-    Ok(ScoredPlan { spots, worth })
+    let board = placed_state(alloc, input, order, options)?;
+    let worth = cost_of_plan(input, &board);
+    let planned = spots_of(input, board)?;
+    Ok(ScoredPlan { planned, worth })
 }

@@ -19,11 +19,11 @@ use std::alloc::AllocError;
 /// A cell to place, and the spans to search.
 #[derive(Clone, Copy)]
 pub(crate) struct Search<'a> {
-    pub(crate) land: &'a FreeRows,
+    pub(crate) free_rows: &'a FreeRows,
     pub(crate) segments: &'a [PackedSpan],
     pub(crate) number: u32,
     pub(crate) wish: &'a PlannerCell,
-    pub(crate) how: &'a SearchLimits,
+    pub(crate) limits: &'a SearchLimits,
     /// The distance of adjacent rows.
     pub(crate) height: u32,
     /// Whether costs count a target between two sites there, or at the nearer one.
@@ -110,10 +110,10 @@ fn sites_left(best: &Best, row: i64, unit: i64) -> i64 {
 }
 
 /// The width of a cell in sites.
-fn sites_of(wish: &PlannerCell, pitch: i64) -> i64
+fn sites_of(cell: &PlannerCell, pitch: i64) -> i64
     requires { pos 0 <ℤ pitch }
 {
-    (wish.width as i64).saturating_add(pitch.saturating_sub(1)) / pitch
+    (cell.width as i64).saturating_add(pitch.saturating_sub(1)) / pitch
 }
 
 /// A cell at its target in a span of a row at distance `dy`. It may be pushed as far as `reach`.
@@ -181,31 +181,43 @@ fn try_of(
     let target = span_target(sites, search.wish.x, last, search.exact);
     let outside = target.outside.div_euclid(pitch);
     let factor = search.wish.factor as i64;
-    let row = cost_of(dy, search.how);
+    let row = cost_of(dy, search.limits);
     let left = sites_left(
         best,
         row.saturating_mul(factor),
         pitch.saturating_mul(factor),
     );
-    let beyond = search.how.reach.saturating_sub(dy);
+    let beyond = search.limits.reach.saturating_sub(dy);
     if left <= outside || beyond < target.outside {
         return None;
     }
-    let near = search.how.near.saturating_sub(dy).max(0).div_euclid(pitch);
+    let near = search
+        .limits
+        .near
+        .saturating_sub(dy)
+        .max(0)
+        .div_euclid(pitch);
     let along = SearchLimits {
         near: near.saturating_mul(pitch),
-        ..*search.how
+        ..*search.limits
     };
     let in_row = cost_of(target.outside, &along);
-    let cell = cell_at(search.number, width, &target, pitch, dy, search.how.reach);
+    let cell = cell_at(
+        search.number,
+        width,
+        &target,
+        pitch,
+        dy,
+        search.limits.reach,
+    );
     Some(SpanCandidate {
         span,
         cell,
         effort: SearchEffort {
             reach: clipped(left.saturating_sub(outside)).min(cell.reach),
-            most: search.how.most,
+            most: search.limits.most,
             near: clipped(near.saturating_sub(outside)),
-            weight: search.how.weight,
+            weight: search.limits.weight,
             pitch: clipped(pitch),
             factor: search.wish.factor,
         },
@@ -277,7 +289,7 @@ fn try_span(
     best: &mut Best,
     curve: &mut CostCurve,
 ) -> Result<(), AllocError> {
-    let (Some(sites), Some(segment)) = (search.land.spans.get(span), search.segments.get(span))
+    let (Some(sites), Some(segment)) = (search.free_rows.spans.get(span), search.segments.get(span))
     else {
         return Ok(());
     };
@@ -291,16 +303,16 @@ fn try_span(
     if !segment.has_room(tried.cell.width) {
         return Ok(());
     }
-    try_gaps(segment, search.how.gaps, &tried, best, curve)
+    try_gaps(segment, search.limits.gaps, &tried, best, curve)
 }
 
 /// Whether anything at distance `dx` on a row at distance `dy` costs too much or is out of reach.
 fn is_beyond(search: &Search, dy: i64, dx: i64, best: &Best) -> bool {
     let dx = dx.max(0);
-    if search.how.reach < dy.saturating_add(dx) {
+    if search.limits.reach < dy.saturating_add(dx) {
         return true;
     }
-    let way = cost_of(dy, search.how).saturating_add(dx);
+    let way = cost_of(dy, search.limits).saturating_add(dx);
     best.cost <= way.saturating_mul(search.wish.factor as i64)
 }
 
@@ -311,7 +323,7 @@ fn try_row(
     best: &mut Best,
     curve: &mut CostCurve,
 ) -> Result<(), AllocError> {
-    let spans = search.land.spans.as_slice();
+    let spans = search.free_rows.spans.as_slice();
     if row.last < row.first || spans.len() < row.last || !search.wish.kinds.has(row.kind) {
         return Ok(());
     }
@@ -344,7 +356,7 @@ fn row_away(rows: &[PlannerRow], position: usize, y: i32) -> i64 {
 /// The position of the nearer row of the next one above and the next one below. `None` if both cost
 /// too much.
 fn next_row(search: &Search, above: usize, below: usize, best: &Best) -> Option<usize> {
-    let rows = search.land.rows.as_slice();
+    let rows = search.free_rows.rows.as_slice();
     let up = row_away(rows, above, search.wish.y);
     if below == 0 {
         if is_beyond(search, up, 0, best) {
@@ -369,7 +381,7 @@ pub(crate) fn best_gap(
     limit: i64,
     curve: &mut CostCurve,
 ) -> Result<Best, AllocError> {
-    let rows = search.land.rows.as_slice();
+    let rows = search.free_rows.rows.as_slice();
     let mut best = Best {
         cost: limit,
         gap: None,

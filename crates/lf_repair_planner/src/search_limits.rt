@@ -16,9 +16,9 @@ pub(crate) struct SearchLimits {
 }
 
 /// The cost of a displacement.
-pub(crate) fn cost_of(way: i64, how: &SearchLimits) -> i64 {
-    let beyond = way.saturating_sub(how.near).max(0);
-    way.saturating_add(beyond.saturating_mul((how.weight as i64).saturating_sub(1)))
+pub(crate) fn cost_of(way: i64, limits: &SearchLimits) -> i64 {
+    let beyond = way.saturating_sub(limits.near).max(0);
+    way.saturating_add(beyond.saturating_mul((limits.weight as i64).saturating_sub(1)))
 }
 
 /// The number of a cell by its position, limited to the greatest number.

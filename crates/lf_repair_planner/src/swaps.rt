@@ -40,8 +40,8 @@ struct Exchange {
 }
 
 /// The displacement of a cell with this target at a site of a span.
-fn displacement_along(wish: &PlannerCell, along: &SpanOfRow, at: u32) -> i64 {
-    displacement_at_site(wish, &along.sites, along.row.y, at)
+fn displacement_along(cell: &PlannerCell, along: &SpanOfRow, at: u32) -> i64 {
+    displacement_at_site(cell, &along.sites, along.row.y, at)
 }
 
 /// The cell of a span at this position, with its target.
@@ -61,19 +61,19 @@ fn placed_at(
 }
 
 /// The span at this position, and the row that contains it.
-fn span_of_row(given: &PlannerInput, span: usize) -> Option<SpanOfRow> {
+fn span_of_row(input: &PlannerInput, span: usize) -> Option<SpanOfRow> {
     Some(SpanOfRow {
         span,
-        sites: *given.land.spans.get(span)?,
-        row: given.row_of(span)?,
+        sites: *input.free_rows.spans.get(span)?,
+        row: input.row_of(span)?,
     })
 }
 
 /// The cell with this number at its place. `None` if it has no place.
-fn placed_cell(given: &PlannerInput, board: &PlanState, number: u32) -> Option<PlacedCell> {
+fn placed_cell(input: &PlannerInput, board: &PlanState, number: u32) -> Option<PlacedCell> {
     let place = board.place_of(number)?;
-    let wish = given.wishes.get(number as usize)?;
-    let along = span_of_row(given, place.span)?;
+    let wish = input.cells.get(number as usize)?;
+    let along = span_of_row(input, place.span)?;
     Some(placed_at(wish, &along, place.gap, &place.cell))
 }
 
@@ -88,24 +88,27 @@ fn may_exchange(one: &PlacedCell, other: &PlacedCell) -> bool {
 
 /// By how much an exchange of two cells lowers their cost. 0 if the longer displacement would grow
 /// beyond `how.near`.
-fn gain_of(one: &PlacedCell, other: &PlacedCell, how: &SearchLimits) -> i64 {
+fn gain_of(one: &PlacedCell, other: &PlacedCell, limits: &SearchLimits) -> i64 {
     let first = displacement_along(&one.wish, &other.along, other.cell.at);
     let second = displacement_along(&other.wish, &one.along, one.cell.at);
-    let longest = one.displacement.max(other.displacement).max(how.near);
+    let longest = one.displacement.max(other.displacement).max(limits.near);
     if longest < first.max(second) {
         return 0;
     }
-    let before = cost_of(one.displacement, how).saturating_add(cost_of(other.displacement, how));
-    let after = cost_of(first, how).saturating_add(cost_of(second, how));
+    let before = cost_of(one.displacement, limits).saturating_add(cost_of(
+        other.displacement,
+        limits,
+    ));
+    let after = cost_of(first, limits).saturating_add(cost_of(second, limits));
     before.saturating_sub(after)
 }
 
 /// Tries an exchange with this cell.
-fn try_exchange(one: &PlacedCell, other: &PlacedCell, how: &SearchLimits, best: &mut Exchange) {
+fn try_exchange(one: &PlacedCell, other: &PlacedCell, limits: &SearchLimits, best: &mut Exchange) {
     if !may_exchange(one, other) {
         return;
     }
-    let gain = gain_of(one, other, how);
+    let gain = gain_of(one, other, limits);
     if best.gain < gain {
         *best = Exchange {
             gain,
@@ -120,7 +123,7 @@ fn try_span(
     along: &SpanOfRow,
     cells: &[PackedCell],
     one: &PlacedCell,
-    how: &SearchLimits,
+    limits: &SearchLimits,
     best: &mut Exchange,
 ) {
     let target = site_at(&along.sites, one.wish.x);
@@ -132,24 +135,29 @@ fn try_span(
         }
         if let Some(wish) = wishes.get(cell.number as usize) {
             let position = begin.saturating_add(away);
-            try_exchange(one, &placed_at(wish, along, position, cell), how, best);
+            try_exchange(one, &placed_at(wish, along, position, cell), limits, best);
         }
     }
 }
 
 /// Tries an exchange with the cells of a row near the cell's target, in the span at the target.
 fn try_row(
-    given: &PlannerInput,
+    input: &PlannerInput,
     board: &PlanState,
     row: &PlannerRow,
     one: &PlacedCell,
-    how: &SearchLimits,
+    limits: &SearchLimits,
     best: &mut Exchange,
 ) {
-    let spans = given.land.spans.get(row.first..row.last).unwrap_or(&[]);
+    let spans = input
+        .free_rows
+        .spans
+        .get(row.first..row.last)
+        .unwrap_or(&[]);
     let after = spans.partition_point(|span| span.first <= one.wish.x);
     let span = row.first.saturating_add(after.saturating_sub(1));
-    let (Some(sites), Some(segment)) = (given.land.spans.get(span), board.segments.get(span)) else {
+    let (Some(sites), Some(segment)) = (input.free_rows.spans.get(span), board.segments.get(span))
+    else {
         return;
     };
     let along = SpanOfRow {
@@ -157,26 +165,26 @@ fn try_row(
         sites: *sites,
         row: *row,
     };
-    try_span(given.wishes, &along, segment.as_slice(), one, how, best);
+    try_span(input.cells, &along, segment.as_slice(), one, limits, best);
 }
 
 /// The best exchange of a cell with one near its target, in the target's row or an adjacent one.
 fn best_exchange(
-    given: &PlannerInput,
+    input: &PlannerInput,
     board: &PlanState,
     one: &PlacedCell,
-    how: &SearchLimits,
+    limits: &SearchLimits,
 ) -> Exchange {
     let mut best = Exchange {
         gain: 0,
         other: None,
     };
-    let rows = given.land.rows.as_slice();
+    let rows = input.free_rows.rows.as_slice();
     let above = rows.partition_point(|row| row.y < one.wish.y);
     let last = above.saturating_add(2).min(rows.len());
     let near = rows.get(above.saturating_sub(1)..last).unwrap_or(&[]);
     for row in near {
-        try_row(given, board, row, one, how, &mut best);
+        try_row(input, board, row, one, limits, &mut best);
     }
     best
 }
@@ -206,8 +214,8 @@ fn put_at_place(board: &mut PlanState, cell: &PlacedCell, place: &PlacedCell) {
     if let Some(segment) = board.segments.get_mut(along.span) {
         replace_in(segment, place.position, number, clipped(wanted));
     }
-    if let Some(spot) = board.spots.get_mut(number as usize) {
-        *spot = Some(PlannedSite {
+    if let Some(planned) = board.planned.get_mut(number as usize) {
+        *planned = Some(PlannedSite {
             span: number_of(along.span),
             at: place.cell.at,
         });
@@ -217,19 +225,19 @@ fn put_at_place(board: &mut PlanState, cell: &PlacedCell, place: &PlacedCell) {
 /// Lets each cell that is more than a site from its target exchange places with another cell if
 /// that lowers their cost, in this order.
 pub(crate) fn swap_cells(
-    given: &PlannerInput,
+    input: &PlannerInput,
     order: &[u32],
-    how: &SearchLimits,
+    limits: &SearchLimits,
     board: &mut PlanState,
 ) {
     for number in order {
-        let Some(one) = placed_cell(given, board, *number) else {
+        let Some(one) = placed_cell(input, board, *number) else {
             continue;
         };
         if one.displacement <= one.along.sites.pitch() {
             continue;
         }
-        if let Some(other) = best_exchange(given, board, &one, how).other {
+        if let Some(other) = best_exchange(input, board, &one, limits).other {
             put_at_place(board, &one, &other);
             put_at_place(board, &other, &one);
         }

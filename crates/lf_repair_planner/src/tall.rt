@@ -28,7 +28,7 @@ pub(crate) fn upper_number(number: u32) -> u32 {
 /// The span that a cell covers `up` rows above its lowest one, in which it has this span and site.
 /// `None` if there is none, or if its sites are not above those of the lowest span.
 pub(crate) fn covered_span(
-    land: &FreeRows,
+    free_rows: &FreeRows,
     row_y: i32,
     height: u32,
     span: usize,
@@ -38,12 +38,12 @@ pub(crate) fn covered_span(
     if up == 0 {
         return Some(CoveredSpan { span, shift: 0 });
     }
-    let lowest = land.spans.get(span)?;
+    let lowest = free_rows.spans.get(span)?;
     let pitch = lowest.pitch();
     let x = (lowest.first as i64).saturating_add(pitch.saturating_mul(at as i64));
     let y = (row_y as i64).saturating_add((height as i64).saturating_mul(up as i64));
-    let upper = land.span_at(x, y)?;
-    let sites = land.spans.get(upper)?;
+    let upper = free_rows.span_at(x, y)?;
+    let sites = free_rows.spans.get(upper)?;
     let distance = lowest.first as i64 - sites.first as i64;
     if sites.step != lowest.step || distance.rem_euclid(pitch) != 0 {
         return None;
@@ -55,9 +55,9 @@ pub(crate) fn covered_span(
 }
 
 /// The span that the cell of a gap covers `up` rows above its lowest one.
-pub(crate) fn span_above(given: &PlannerInput, gap: &Gap, up: u32) -> Option<CoveredSpan> {
-    let row = given.row_of(gap.span)?;
-    covered_span(given.land, row.y, given.height, gap.span, gap.aim, up)
+pub(crate) fn span_above(input: &PlannerInput, gap: &Gap, up: u32) -> Option<CoveredSpan> {
+    let row = input.row_of(gap.span)?;
+    covered_span(input.free_rows, row.y, input.height, gap.span, gap.aim, up)
 }
 
 /// A cell of several rows as it is listed in a span that it covers.
@@ -91,13 +91,13 @@ fn row_gap<'a>(
     aim: u32,
     up: u32,
 ) -> Option<(&'a PackedSpan, RowGap)> {
-    let covered = covered_span(search.land, row_y, search.height, tried.span, aim, up)?;
+    let covered = covered_span(search.free_rows, row_y, search.height, tried.span, aim, up)?;
     let segment = search.segments.get(covered.span)?;
     let gap = RowGap {
         gap: gap_at(segment, &tried.cell, aim, covered.shift),
         shift: covered.shift,
         width: tried.cell.width,
-        most: search.how.most,
+        most: search.limits.most,
     };
     Some((segment, gap))
 }
@@ -171,7 +171,7 @@ pub(crate) fn try_tall_span(
     best: &mut Best,
     curve: &mut CostCurve,
 ) -> Result<(), AllocError> {
-    let Some(sites) = search.land.spans.get(tried.span) else {
+    let Some(sites) = search.free_rows.spans.get(tried.span) else {
         return Ok(());
     };
     let wanted = tried.cell.wanted as i64;

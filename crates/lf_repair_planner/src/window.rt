@@ -22,23 +22,23 @@ struct Window {
 
 /// A window around the cell's place or around its target, by chance.
 fn random_window(
-    given: &PlannerInput,
+    input: &PlannerInput,
     number: u32,
     place: Option<Gap>,
     random: &mut Scramble,
 ) -> Option<Window> {
-    let wish = given.wishes.get(number as usize)?;
+    let wish = input.cells.get(number as usize)?;
     let around_place = random.below(2) == 0;
     let sites = LEAST_SITES + random.below(2 * LEAST_SITES);
-    let pitch = given.land.spans.first()?.pitch();
+    let pitch = input.free_rows.spans.first()?.pitch();
     let half = pitch.saturating_mul(sites as i64);
     if around_place {
         if let Some(gap) = place {
-            let span = given.land.spans.get(gap.span)?;
+            let span = input.free_rows.spans.get(gap.span)?;
             let x = span.pitch().saturating_mul(gap.cell.at as i64);
             return Some(Window {
                 x: x.saturating_add(span.first as i64),
-                y: given.row_of(gap.span)?.y as i64,
+                y: input.row_of(gap.span)?.y as i64,
                 half,
             });
         }
@@ -82,14 +82,18 @@ fn list_cells(
 
 /// Lists the cells of a row that begin in the window.
 fn list_row(
-    given: &PlannerInput,
+    input: &PlannerInput,
     state: &PlanState,
     row: &PlannerRow,
     window: &Window,
     number: u32,
     pool: &mut Vec<u32>,
 ) -> Result<(), AllocError> {
-    let spans = given.land.spans.get(row.first..row.last).unwrap_or(&[]);
+    let spans = input
+        .free_rows
+        .spans
+        .get(row.first..row.last)
+        .unwrap_or(&[]);
     let low = window.x.saturating_sub(window.half);
     let high = window.x.saturating_add(window.half);
     let begin = spans.partition_point(|span| span.end() <= low);
@@ -100,7 +104,7 @@ fn list_row(
         let span = row.first.saturating_add(begin).saturating_add(away);
         if let Some(segment) = state.segments.get(span) {
             let cells = segment.as_slice();
-            list_cells(given.wishes, sites, cells, window, number, pool)?;
+            list_cells(input.cells, sites, cells, window, number, pool)?;
         }
     }
     Ok(())
@@ -108,7 +112,7 @@ fn list_row(
 
 /// Lists the other cells of a window of three rows around a cell's place or around its target.
 pub(crate) fn list_window(
-    given: &PlannerInput,
+    input: &PlannerInput,
     state: &PlanState,
     number: u32,
     place: Option<Gap>,
@@ -116,19 +120,22 @@ pub(crate) fn list_window(
     pool: &mut Vec<u32>,
 ) -> Result<(), AllocError> {
     pool.clear();
-    let Some(window) = random_window(given, number, place, random) else {
+    let Some(window) = random_window(input, number, place, random) else {
         return Ok(());
     };
-    let height = given.height as i64;
+    let height = input.height as i64;
     let up = height.saturating_mul(random.below(2) as i64);
     let below = window.y.saturating_add(up).saturating_sub(2 * height);
     let above = window.y.saturating_add(up).saturating_add(height);
-    let begin = given.land.rows.partition_point(|row| row.y as i64 <= below);
-    for row in &given.land.rows.as_slice()[begin..] {
+    let begin = input
+        .free_rows
+        .rows
+        .partition_point(|row| row.y as i64 <= below);
+    for row in &input.free_rows.rows.as_slice()[begin..] {
         if above < row.y as i64 {
             return Ok(());
         }
-        list_row(given, state, row, &window, number, pool)?;
+        list_row(input, state, row, &window, number, pool)?;
     }
     Ok(())
 }

@@ -59,12 +59,12 @@ struct Grid {
 
 /// Appends the spans of the rows that an area covers, widened by `pad` on both sides.
 pub(crate) fn take_area(
-    plan: &IndexedFrame<'_>,
+    frame: &IndexedFrame<'_>,
     area: &Area,
     pad: i64,
     taken: &mut Vec<BlockedSpan>,
 ) -> Result<(), AllocError> {
-    for entry in plan.rows_between(area.y1, area.y2) {
+    for entry in frame.rows_between(area.y1, area.y2) {
         taken.push(BlockedSpan {
             row: entry.row,
             lo: area.x1.saturating_sub(pad),
@@ -76,13 +76,13 @@ pub(crate) fn take_area(
 
 /// Appends the spans of the team's segments that soft blockages cover.
 pub(crate) fn take_soft(
-    plan: &IndexedFrame<'_>,
+    frame: &IndexedFrame<'_>,
     team: usize,
     taken: &mut Vec<BlockedSpan>,
 ) -> Result<(), AllocError> {
-    for (number, segment) in plan.index().segments().as_slice().iter().enumerate() {
+    for (number, segment) in frame.index().segments().as_slice().iter().enumerate() {
         if segment.team == team {
-            for span in plan.soft_of(number) {
+            for span in frame.soft_of(number) {
                 taken.push(BlockedSpan {
                     row: segment.row,
                     lo: span.lo,
@@ -96,12 +96,12 @@ pub(crate) fn take_soft(
 
 /// Whether the team has a soft blockage in the row at `y`, in the range of x from `lo` on and below
 /// `hi`.
-pub(crate) fn is_soft_at(plan: &IndexedFrame<'_>, team: usize, y: i64, lo: i64, hi: i64) -> bool {
-    let index = plan.index();
-    for entry in plan.rows_at(y) {
+pub(crate) fn is_soft_at(frame: &IndexedFrame<'_>, team: usize, y: i64, lo: i64, hi: i64) -> bool {
+    let index = frame.index();
+    for entry in frame.rows_at(y) {
         let strips = index.strips_overlapping(entry.row, team, &lo, &hi);
         for strip in strips.start..strips.end {
-            let mut spans = plan.soft_of(strip).iter();
+            let mut spans = frame.soft_of(strip).iter();
             if spans.any(|span| span.lo < hi && lo < span.hi) {
                 return true;
             }
@@ -182,10 +182,10 @@ fn kind_of(orient: Orient) -> RowKind {
 fn push_row(
     plan: &IndexedFrame<'_>,
     frame: &Frame,
-    owner: &PaddedTeam,
+    team: &PaddedTeam,
     number: usize,
     taken: &[BlockedSpan],
-    land: &mut FreeRows,
+    free_rows: &mut FreeRows,
 ) -> Result<(), AllocError> {
     let Some(row) = frame.rows.as_slice().get(number) else {
         return Ok(());
@@ -193,15 +193,15 @@ fn push_row(
     let grid = Grid {
         x: row.x as i64,
         step: frame.pitch.x,
-        pad: owner.pad,
+        pad: team.pad,
     };
-    let first = land.spans.len();
-    for segment in plan.index().segments().of_row(number, owner.team) {
-        push_free(&mut land.spans, taken, segment, &grid)?;
+    let first = free_rows.spans.len();
+    for segment in plan.index().segments().of_row(number, team.team) {
+        push_free(&mut free_rows.spans, taken, segment, &grid)?;
     }
-    let last = land.spans.len();
+    let last = free_rows.spans.len();
     if first < last {
-        land.rows.push(PlannerRow {
+        free_rows.rows.push(PlannerRow {
             y: row.y,
             kind: kind_of(row.orient),
             first,
@@ -217,13 +217,20 @@ pub(crate) fn free_rows_beside(
     alloc: Global,
     plan: &IndexedFrame<'_>,
     frame: &Frame,
-    owner: &PaddedTeam,
+    team: &PaddedTeam,
     taken: &mut Vec<BlockedSpan>,
 ) -> Result<FreeRows, AllocError> {
     taken.sort_unstable();
-    let mut land = FreeRows::new(alloc);
+    let mut free_rows = FreeRows::new(alloc);
     for entry in plan.rows_between(i64::MIN, i64::MAX) {
-        push_row(plan, frame, owner, entry.row, taken.as_slice(), &mut land)?;
+        push_row(
+            plan,
+            frame,
+            team,
+            entry.row,
+            taken.as_slice(),
+            &mut free_rows,
+        )?;
     }
-    Ok(land)
+    Ok(free_rows)
 }

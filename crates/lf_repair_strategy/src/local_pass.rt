@@ -314,23 +314,23 @@ fn locked_cells(
     alloc: Global,
     placement: &Placement,
     number: usize,
-    start: &RepairInput,
+    input: &RepairInput,
     bounds: &Bounds,
     near: &NearRegion,
     search: &RepairSearch<'_>,
 ) -> Result<Vec<bool>, AllocError> {
     let frame = placement.frame();
-    let mut marks = Vec::with_capacity(alloc, start.legal.len())?;
+    let mut locked = Vec::with_capacity(alloc, input.legal.len())?;
     for (id, (wanted_place, legal)) in placement
         .cells()
         .cells_of(number)
         .iter()
-        .zip(start.pass.targets.iter().zip(start.legal.iter()))
+        .zip(input.pass.targets.iter().zip(input.legal.iter()))
     {
         let wanted = point_of(frame, *id, *wanted_place, bounds, search);
-        marks.push(is_locked(placement, *id, *legal, &wanted, near))?;
+        locked.push(is_locked(placement, *id, *legal, &wanted, near))?;
     }
-    Ok(marks)
+    Ok(locked)
 }
 
 /// The target place of a cell in a local pass: its original place if it had one, otherwise its
@@ -372,13 +372,13 @@ pub(crate) fn target_places(
 }
 
 /// Whether a local pass with this reach has nothing to improve.
-fn has_no_work(start: &RepairInput, need: &ProblemCells, reach: &Neighborhood) -> bool {
+fn has_no_work(input: &RepairInput, need: &ProblemCells, reach: &Neighborhood) -> bool {
     match reach {
         Neighborhood::Windows => true,
         Neighborhood::Near { .. } => need.points.len() == 0,
         Neighborhood::All => need.left == 0,
         Neighborhood::Whole => {
-            !matches!(start.how, MovePolicy::MoveAll) || !start.legal.contains(&false)
+            !matches!(input.how, MovePolicy::MoveAll) || !input.legal.contains(&false)
         }
     }
 }
@@ -400,8 +400,8 @@ fn total_displacement(placement: &Placement, number: usize, targets: &[Option<Pl
 }
 
 /// Whether a cell that was legal is not locked.
-fn frees_legal(legal: &[bool], marks: &[bool]) -> bool {
-    for (legal, held) in legal.iter().zip(marks.iter()) {
+fn frees_legal(legal: &[bool], locked: &[bool]) -> bool {
+    for (legal, held) in legal.iter().zip(locked.iter()) {
         if *legal && !*held {
             return true;
         }
@@ -415,13 +415,13 @@ pub(crate) fn new_local_pass(
     alloc: Global,
     placement: &Placement,
     number: usize,
-    start: &RepairInput,
+    input: &RepairInput,
     pass: Pass,
     search: &RepairSearch<'_>,
 ) -> Result<LocalPass, AllocError> {
     let bounds = bounds_of(placement, number);
-    let need = problem_cells(alloc, placement, number, &start.pass, &bounds, search)?;
-    let total = total_displacement(placement, number, start.pass.targets.as_slice());
+    let need = problem_cells(alloc, placement, number, &input.pass, &bounds, search)?;
+    let total = total_displacement(placement, number, input.pass.targets.as_slice());
     Ok(LocalPass {
         pass,
         before: working_places(alloc, placement, number)?,
@@ -438,38 +438,38 @@ pub fn plan_local_pass(
     alloc: Global,
     placement: &Placement,
     number: usize,
-    start: &RepairInput,
+    input: &RepairInput,
     reach: &Neighborhood,
     search: &RepairSearch<'_>,
 ) -> Result<Option<LocalPass>, AllocError> {
     let bounds = bounds_of(placement, number);
-    let need = problem_cells(alloc, placement, number, &start.pass, &bounds, search)?;
-    if has_no_work(start, &need, reach) {
+    let need = problem_cells(alloc, placement, number, &input.pass, &bounds, search)?;
+    if has_no_work(input, &need, reach) {
         return Ok(None);
     }
     let near = near_of(alloc, placement.frame(), &need, reach)?;
-    let marks = locked_cells(alloc, placement, number, start, &bounds, &near, search)?;
-    if !frees_legal(start.legal.as_slice(), marks.as_slice()) {
+    let locked = locked_cells(alloc, placement, number, input, &bounds, &near, search)?;
+    if !frees_legal(input.legal.as_slice(), locked.as_slice()) {
         return Ok(None);
     }
     let targets = target_places(
         alloc,
         placement,
         number,
-        start.pass.targets.as_slice(),
+        input.pass.targets.as_slice(),
         search,
     )?;
     let before = working_places(alloc, placement, number)?;
     Ok(Some(LocalPass {
         pass: Pass {
-            locked: marks,
-            impossible: copied(alloc, start.pass.impossible.as_slice())?,
+            locked,
+            impossible: copied(alloc, input.pass.impossible.as_slice())?,
             targets,
         },
         before,
         left: need.left,
         needy: need.points.len(),
-        total: total_displacement(placement, number, start.pass.targets.as_slice()),
+        total: total_displacement(placement, number, input.pass.targets.as_slice()),
         shortens: matches!(reach, Neighborhood::Whole),
     }))
 }
@@ -492,13 +492,13 @@ pub fn has_improved(
     alloc: Global,
     placement: &Placement,
     number: usize,
-    start: &RepairInput,
+    input: &RepairInput,
     local_plan: &LocalPass,
     search: &RepairSearch<'_>,
 ) -> Result<bool, AllocError> {
     let bounds = bounds_of(placement, number);
-    let need = problem_cells(alloc, placement, number, &start.pass, &bounds, search)?;
-    let total = total_displacement(placement, number, start.pass.targets.as_slice());
+    let need = problem_cells(alloc, placement, number, &input.pass, &bounds, search)?;
+    let total = total_displacement(placement, number, input.pass.targets.as_slice());
     Ok(is_better(&need, total, local_plan))
 }
 

@@ -232,13 +232,13 @@ fn is_loose(loose: &[bool], own: u32) -> bool {
 fn blocked_spans(
     alloc: Global,
     placement: &Placement,
-    owner: &PaddedTeam,
+    team: &PaddedTeam,
     loose: &[bool],
 ) -> Result<Vec<BlockedSpan>, AllocError> {
     let plan = placement.indexed_frame();
     let frame = placement.frame();
     let mut taken = Vec::new(alloc);
-    for id in placement.cells().cells_of(owner.team) {
+    for id in placement.cells().cells_of(team.team) {
         if is_loose(loose, id.own) {
             continue;
         }
@@ -251,9 +251,9 @@ fn blocked_spans(
         let Some(mac) = frame.macros.as_slice().get(facts.mac) else {
             continue;
         };
-        take_area(&plan, &area_of(frame, mac, &place), owner.pad, &mut taken)?;
+        take_area(&plan, &area_of(frame, mac, &place), team.pad, &mut taken)?;
     }
-    take_soft(&plan, owner.team, &mut taken)?;
+    take_soft(&plan, team.team, &mut taken)?;
     Ok(taken)
 }
 
@@ -261,15 +261,15 @@ fn blocked_spans(
 pub fn free_rows_without(
     alloc: Global,
     placement: &Placement,
-    owner: &PaddedTeam,
+    team: &PaddedTeam,
     loose: &[bool],
 ) -> Result<FreeRows, AllocError> {
-    let mut taken = blocked_spans(alloc, placement, owner, loose)?;
+    let mut taken = blocked_spans(alloc, placement, team, loose)?;
     free_rows_beside(
         alloc,
         &placement.indexed_frame(),
         placement.frame(),
-        owner,
+        team,
         &mut taken,
     )
 }
@@ -312,15 +312,15 @@ pub(crate) fn orient_on(
 /// The place of a cell at a planned site.
 fn place_at(
     frame: &Frame,
-    land: &FreeRows,
+    free_rows: &FreeRows,
     stop: &PlannedCell,
     cell: &MovableCell<'_>,
 ) -> Option<Place> {
     let wanted_place = cell.wanted_place?;
     let span = stop.span as usize;
-    let sites = land.spans.get(span)?;
-    let after = land.rows.partition_point(|row| row.first <= span);
-    let row = land.rows.get(after.checked_sub(1)?)?;
+    let sites = free_rows.spans.get(span)?;
+    let after = free_rows.rows.partition_point(|row| row.first <= span);
+    let row = free_rows.rows.get(after.checked_sub(1)?)?;
     let orient = orient_on(frame, cell.mac, wanted_place.orient, orient_of(row.kind))?;
     let x = (sites.first as i64).saturating_add((sites.step as i64).saturating_mul(stop.at as i64));
     Some(Place::new(coordinate(x), coordinate(row.y as i64), orient))
@@ -356,10 +356,10 @@ fn upright_place(placement: &Placement, id: CellId) -> Option<Place> {
 pub(crate) fn planned_place(
     placement: &Placement,
     cell: &MovableCell<'_>,
-    land: &FreeRows,
+    free_rows: &FreeRows,
     stop: &PlannedCell,
 ) -> Option<Place> {
-    let to = place_at(placement.frame(), land, stop, cell)?;
+    let to = place_at(placement.frame(), free_rows, stop, cell)?;
     if placement.broken_frame_rule(cell.id, &to).is_some() {
         return None;
     }
@@ -372,7 +372,7 @@ fn planned_move(
     placement: &Placement,
     team: usize,
     pass: &Pass,
-    land: &FreeRows,
+    free_rows: &FreeRows,
     stop: &PlannedCell,
 ) -> Option<CellMove> {
     let id = placement.cells().cell_of(team, stop.own as usize)?;
@@ -384,19 +384,19 @@ fn planned_move(
         own: stop.own,
         width: cell.width.clamp(0, 4_294_967_295) as u32,
         from: upright_place(placement, id),
-        to: planned_place(placement, &cell, land, stop)?,
+        to: planned_place(placement, &cell, free_rows, stop)?,
     })
 }
 
 /// The bands of rows in which cells of the team are moved.
-pub fn bands_of(frame: &Frame, owner: &PaddedTeam, land: &FreeRows) -> Bands {
+pub fn bands_of(frame: &Frame, team: &PaddedTeam, free_rows: &FreeRows) -> Bands {
     Bands {
-        origin: match land.rows.first() {
+        origin: match free_rows.rows.first() {
             Some(row) => row.y as i64,
             None => 0,
         },
         height: frame.pitch.y,
-        pad: owner.pad,
+        pad: team.pad,
     }
 }
 
@@ -412,15 +412,15 @@ fn clear_moved(loose: &mut [bool], one: &CellMove) {
 fn planned_moves(
     alloc: Global,
     placement: &Placement,
-    owner: &PaddedTeam,
+    team: &PaddedTeam,
     pass: &Pass,
     plan: &TeamPlan,
     loose: &mut Vec<bool>,
 ) -> Result<MoveList, AllocError> {
-    let bands = bands_of(placement.frame(), owner, &plan.land);
+    let bands = bands_of(placement.frame(), team, &plan.free_rows);
     let mut list = MoveList::with_capacity(alloc, bands, plan.stops.len())?;
     for stop in &plan.stops {
-        if let Some(one) = planned_move(placement, owner.team, pass, &plan.land, stop) {
+        if let Some(one) = planned_move(placement, team.team, pass, &plan.free_rows, stop) {
             clear_moved(loose.as_mut_slice(), &one);
             list.push(&one)?;
         }
@@ -432,15 +432,15 @@ fn planned_moves(
 fn tall_places(
     alloc: Global,
     placement: &Placement,
-    owner: &PaddedTeam,
+    team: &PaddedTeam,
     pass: &Pass,
     plan: &TeamPlan,
 ) -> Result<Vec<Option<Place>>, AllocError> {
-    let cells = placement.cells().cells_of(owner.team);
+    let cells = placement.cells().cells_of(team.team);
     let mut places = vec![in alloc; None; cells.len()]?;
     for stop in &plan.stops {
         let own = stop.own as usize;
-        let Some(id) = placement.cells().cell_of(owner.team, own) else {
+        let Some(id) = placement.cells().cell_of(team.team, own) else {
             continue;
         };
         let (Some(cell), Some(place)) = (movable_cell(placement, pass, id), places.get_mut(own))
@@ -448,7 +448,7 @@ fn tall_places(
             continue;
         };
         if is_high(placement.frame(), &cell) {
-            *place = planned_place(placement, &cell, &plan.land, stop);
+            *place = planned_place(placement, &cell, &plan.free_rows, stop);
         }
     }
     Ok(places)
@@ -459,7 +459,7 @@ fn tall_places(
 fn push_tall_edits(
     alloc: Global,
     placement: &Placement,
-    owner: &PaddedTeam,
+    team: &PaddedTeam,
     pass: &Pass,
     plan: &TeamPlan,
     cell_edits: &mut Vec<CellEdit>,
@@ -467,9 +467,9 @@ fn push_tall_edits(
     if !plan.moves_tall {
         return Ok(());
     }
-    let places = tall_places(alloc, placement, owner, pass, plan)?;
+    let places = tall_places(alloc, placement, team, pass, plan)?;
     let mut placed = Vec::new(alloc);
-    let ids = placement.cells().cells_of(owner.team);
+    let ids = placement.cells().cells_of(team.team);
     for (id, place) in ids.iter().zip(places.iter()) {
         let Some(cell) = movable_cell(placement, pass, *id) else {
             continue;
@@ -507,15 +507,15 @@ fn unplace_loose(
 fn place_by_plan(
     alloc: Global,
     placement: &Placement,
-    owner: &PaddedTeam,
+    team: &PaddedTeam,
     pass: &Pass,
     search: &RepairSearch<'_>,
 ) -> Result<Vec<CellEdit>, AllocError> {
-    let mut loose = loose_cells(alloc, placement, owner.team, pass)?;
-    let plan = team_plan(alloc, placement, owner, pass, loose.as_slice(), search)?;
-    let list = planned_moves(alloc, placement, owner, pass, &plan, &mut loose)?;
-    let mut cell_edits = unplace_loose(alloc, placement, owner.team, loose.as_slice())?;
-    push_tall_edits(alloc, placement, owner, pass, &plan, &mut cell_edits)?;
+    let mut loose = loose_cells(alloc, placement, team.team, pass)?;
+    let plan = team_plan(alloc, placement, team, pass, loose.as_slice(), search)?;
+    let list = planned_moves(alloc, placement, team, pass, &plan, &mut loose)?;
+    let mut cell_edits = unplace_loose(alloc, placement, team.team, loose.as_slice())?;
+    push_tall_edits(alloc, placement, team, pass, &plan, &mut cell_edits)?;
     with_moves(alloc, cell_edits.as_slice(), list)
 }
 
@@ -524,15 +524,15 @@ fn place_by_plan(
 pub fn edits_for(
     alloc: Global,
     placement: &Placement,
-    owner: &PaddedTeam,
+    team: &PaddedTeam,
     pass: &Pass,
     phase: Phase,
     search: &RepairSearch<'_>,
 ) -> Result<Vec<CellEdit>, AllocError> {
     match phase {
-        Phase::UnplaceForTall => unplace_for_tall(alloc, placement, owner.team, pass),
-        Phase::PlaceTall => legalize_tall(alloc, placement, owner.team, pass, search),
-        Phase::PlacePlanned => place_by_plan(alloc, placement, owner, pass, search),
-        Phase::PlaceRemaining => legalize_unplaced(alloc, placement, owner.team, pass, search),
+        Phase::UnplaceForTall => unplace_for_tall(alloc, placement, team.team, pass),
+        Phase::PlaceTall => legalize_tall(alloc, placement, team.team, pass, search),
+        Phase::PlacePlanned => place_by_plan(alloc, placement, team, pass, search),
+        Phase::PlaceRemaining => legalize_unplaced(alloc, placement, team.team, pass, search),
     }
 }

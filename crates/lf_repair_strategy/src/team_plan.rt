@@ -37,7 +37,7 @@ pub(crate) struct PlannedCell {
 /// whether cells of several rows are in the plan.
 #[derive(Drop)]
 pub(crate) struct TeamPlan {
-    pub(crate) land: FreeRows,
+    pub(crate) free_rows: FreeRows,
     pub(crate) stops: Vec<PlannedCell>,
     pub(crate) moves_tall: bool,
 }
@@ -46,7 +46,7 @@ pub(crate) struct TeamPlan {
 #[derive(Drop)]
 pub(crate) struct PlannerCells {
     pub(crate) owns: Vec<u32>,
-    pub(crate) wishes: Vec<PlannerCell>,
+    pub(crate) cells: Vec<PlannerCell>,
     starts: Vec<Option<PlannedSite>>,
 }
 
@@ -115,14 +115,14 @@ fn planner_cell(
 pub(crate) fn low_cells(
     alloc: Global,
     placement: &Placement,
-    owner: &PaddedTeam,
+    team: &PaddedTeam,
     pass: &Pass,
 ) -> Result<PlannerCells, AllocError> {
     let frame = placement.frame();
     let most = movable_count(pass);
     let mut owns = Vec::with_capacity(alloc, most)?;
     let mut wishes = Vec::with_capacity(alloc, most)?;
-    for id in placement.cells().cells_of(owner.team) {
+    for id in placement.cells().cells_of(team.team) {
         let Some(cell) = movable_cell(placement, pass, *id) else {
             continue;
         };
@@ -131,12 +131,12 @@ pub(crate) fn low_cells(
         };
         if !is_high(frame, &cell) {
             owns.push(id.own)?;
-            wishes.push(planner_cell(frame, &cell, &wanted_place, owner.pad, 1, 1))?;
+            wishes.push(planner_cell(frame, &cell, &wanted_place, team.pad, 1, 1))?;
         }
     }
     Ok(PlannerCells {
         owns,
-        wishes,
+        cells: wishes,
         starts: Vec::new(alloc),
     })
 }
@@ -145,11 +145,11 @@ pub(crate) fn low_cells(
 fn counts_by_height(
     alloc: Global,
     placement: &Placement,
-    owner: &PaddedTeam,
+    team: &PaddedTeam,
     pass: &Pass,
 ) -> Result<Vec<u32>, AllocError> {
     let mut counts = vec![in alloc; 0u32; 9]?;
-    for id in placement.cells().cells_of(owner.team) {
+    for id in placement.cells().cells_of(team.team) {
         let Some(cell) = movable_cell(placement, pass, *id) else {
             continue;
         };
@@ -175,15 +175,15 @@ fn factor_of(counts: &[u32], rows: u32) -> u32 {
 fn push_tall_cells(
     alloc: Global,
     placement: &Placement,
-    owner: &PaddedTeam,
+    team: &PaddedTeam,
     pass: &Pass,
     search: &RepairSearch<'_>,
-    land: &FreeRows,
+    free_rows: &FreeRows,
     cells: &mut PlannerCells,
 ) -> Result<(), AllocError> {
     let frame = placement.frame();
-    let counts = counts_by_height(alloc, placement, owner, pass)?;
-    for id in placement.cells().cells_of(owner.team) {
+    let counts = counts_by_height(alloc, placement, team, pass)?;
+    for id in placement.cells().cells_of(team.team) {
         let Some(cell) = movable_cell(placement, pass, *id) else {
             continue;
         };
@@ -199,22 +199,22 @@ fn push_tall_cells(
             1
         };
         let start = match placement.cells().working(*id) {
-            Some(place) => land.site_at(place.x as i64, place.y as i64),
+            Some(place) => free_rows.site_at(place.x as i64, place.y as i64),
             None => None,
         };
         cells.owns.push(id.own)?;
-        cells.wishes.push(planner_cell(frame, &cell, &wanted_place, owner.pad, rows, factor))?;
+        cells.cells.push(planner_cell(frame, &cell, &wanted_place, team.pad, rows, factor))?;
         cells.starts.push(start)?;
     }
     Ok(())
 }
 
 /// A site of one list of free rows, as a site of another one.
-fn same_site(site: &PlannedSite, land: &FreeRows, other: &FreeRows) -> Option<PlannedSite> {
+fn same_site(site: &PlannedSite, free_rows: &FreeRows, other: &FreeRows) -> Option<PlannedSite> {
     let position = site.span as usize;
-    let span = land.spans.get(position)?;
-    let after = land.rows.partition_point(|row| row.first <= position);
-    let row = land.rows.get(after.checked_sub(1)?)?;
+    let span = free_rows.spans.get(position)?;
+    let after = free_rows.rows.partition_point(|row| row.first <= position);
+    let row = free_rows.rows.get(after.checked_sub(1)?)?;
     let along = (span.step as i64).saturating_mul(site.at as i64);
     other.site_at((span.first as i64).saturating_add(along), row.y as i64)
 }
@@ -222,14 +222,14 @@ fn same_site(site: &PlannedSite, land: &FreeRows, other: &FreeRows) -> Option<Pl
 /// The places of a plan on other free rows.
 fn same_sites(
     alloc: Global,
-    spots: &[Option<PlannedSite>],
-    land: &FreeRows,
+    planned: &[Option<PlannedSite>],
+    free_rows: &FreeRows,
     other: &FreeRows,
 ) -> Result<Vec<Option<PlannedSite>>, AllocError> {
-    let mut sites = Vec::with_capacity(alloc, spots.len())?;
-    for spot in spots {
+    let mut sites = Vec::with_capacity(alloc, planned.len())?;
+    for spot in planned {
         sites.push(match spot {
-            Some(site) => same_site(site, land, other),
+            Some(site) => same_site(site, free_rows, other),
             None => None,
         })?;
     }
@@ -246,11 +246,11 @@ pub(crate) fn is_planned_tall(frame: &Frame, cell: &MovableCell<'_>) -> bool {
 fn planned_marks(
     alloc: Global,
     placement: &Placement,
-    owner: &PaddedTeam,
+    team: &PaddedTeam,
     pass: &Pass,
 ) -> Result<Vec<bool>, AllocError> {
     let frame = placement.frame();
-    let cells = placement.cells().cells_of(owner.team);
+    let cells = placement.cells().cells_of(team.team);
     let mut marks = Vec::with_capacity(alloc, cells.len())?;
     for id in cells {
         marks.push(match movable_cell(placement, pass, *id) {
@@ -271,7 +271,7 @@ fn improved_spots(
     alloc: Global,
     placement: &Placement,
     search: &RepairSearch<'_>,
-    land: &FreeRows,
+    free_rows: &FreeRows,
     cells: &PlannerCells,
 ) -> Result<Vec<Option<PlannedSite>>, AllocError> {
     let mut centers = Vec::with_capacity(alloc, cells.owns.len())?;
@@ -287,8 +287,8 @@ fn improved_spots(
     };
     recreate_plan(
         alloc,
-        land,
-        cells.wishes.as_slice(),
+        free_rows,
+        cells.cells.as_slice(),
         cells.starts.as_slice(),
         &options,
     )
@@ -298,10 +298,10 @@ fn improved_spots(
 pub(crate) fn planned_cells(
     alloc: Global,
     owns: &[u32],
-    spots: &[Option<PlannedSite>],
+    planned: &[Option<PlannedSite>],
 ) -> Result<Vec<PlannedCell>, AllocError> {
-    let mut stops = Vec::with_capacity(alloc, spots.len())?;
-    for (own, spot) in owns.iter().zip(spots.iter()) {
+    let mut stops = Vec::with_capacity(alloc, planned.len())?;
+    for (own, spot) in owns.iter().zip(planned.iter()) {
         if let Some(spot) = spot {
             stops.push(PlannedCell {
                 span: spot.span,
@@ -319,20 +319,20 @@ pub(crate) fn planned_cells(
 fn plan_with_tall(
     alloc: Global,
     placement: &Placement,
-    owner: &PaddedTeam,
+    team: &PaddedTeam,
     pass: &Pass,
     search: &RepairSearch<'_>,
     first: &FreeRows,
     mut cells: PlannerCells,
 ) -> Result<TeamPlan, AllocError> {
-    let loose = planned_marks(alloc, placement, owner, pass)?;
-    let land = free_rows_without(alloc, placement, owner, loose.as_slice())?;
-    cells.starts = same_sites(alloc, cells.starts.as_slice(), first, &land)?;
-    push_tall_cells(alloc, placement, owner, pass, search, &land, &mut cells)?;
-    let spots = improved_spots(alloc, placement, search, &land, &cells)?;
+    let loose = planned_marks(alloc, placement, team, pass)?;
+    let free_rows = free_rows_without(alloc, placement, team, loose.as_slice())?;
+    cells.starts = same_sites(alloc, cells.starts.as_slice(), first, &free_rows)?;
+    push_tall_cells(alloc, placement, team, pass, search, &free_rows, &mut cells)?;
+    let planned = improved_spots(alloc, placement, search, &free_rows, &cells)?;
     Ok(TeamPlan {
-        stops: planned_cells(alloc, cells.owns.as_slice(), spots.as_slice())?,
-        land,
+        stops: planned_cells(alloc, cells.owns.as_slice(), planned.as_slice())?,
+        free_rows,
         moves_tall: true,
     })
 }
@@ -342,24 +342,24 @@ fn plan_with_tall(
 pub(crate) fn team_plan(
     alloc: Global,
     placement: &Placement,
-    owner: &PaddedTeam,
+    team: &PaddedTeam,
     pass: &Pass,
     loose: &[bool],
     search: &RepairSearch<'_>,
 ) -> Result<TeamPlan, AllocError> {
-    let land = free_rows_without(alloc, placement, owner, loose)?;
-    let mut cells = low_cells(alloc, placement, owner, pass)?;
-    let steps = steps_of(placement, owner.team, cells.owns.len());
-    cells.starts = plan_cells(alloc, &land, cells.wishes.as_slice(), &steps)?;
+    let free_rows = free_rows_without(alloc, placement, team, loose)?;
+    let mut cells = low_cells(alloc, placement, team, pass)?;
+    let options = steps_of(placement, team.team, cells.owns.len());
+    cells.starts = plan_cells(alloc, &free_rows, cells.cells.as_slice(), &options)?;
     if search.improves_plans() {
-        if may_move_tall(placement, owner.team, pass) {
-            return plan_with_tall(alloc, placement, owner, pass, search, &land, cells);
+        if may_move_tall(placement, team.team, pass) {
+            return plan_with_tall(alloc, placement, team, pass, search, &free_rows, cells);
         }
-        cells.starts = improved_spots(alloc, placement, search, &land, &cells)?;
+        cells.starts = improved_spots(alloc, placement, search, &free_rows, &cells)?;
     }
     Ok(TeamPlan {
         stops: planned_cells(alloc, cells.owns.as_slice(), cells.starts.as_slice())?,
-        land,
+        free_rows,
         moves_tall: false,
     })
 }

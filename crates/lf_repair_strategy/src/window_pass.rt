@@ -16,17 +16,17 @@ use std::alloc::{AllocError, Global};
 const MORE_TRIES: usize = 10;
 
 /// Whether at least half of the cells were legal, but not all, and legal ones may move.
-fn has_legal_half(start: &RepairInput) -> bool {
+fn has_legal_half(input: &RepairInput) -> bool {
     let mut legal = 0usize;
-    for is_legal in &start.legal {
+    for is_legal in &input.legal {
         if *is_legal {
             legal = legal.saturating_add(1);
         }
     }
-    if matches!(start.how, MovePolicy::KeepLegal) || start.legal.len() == legal {
+    if matches!(input.how, MovePolicy::KeepLegal) || input.legal.len() == legal {
         return false;
     }
-    start.legal.len() <= legal.saturating_mul(2)
+    input.legal.len() <= legal.saturating_mul(2)
 }
 
 /// The pass in which the cells of one row's height may move, and legal ones on soft blockages may
@@ -34,20 +34,20 @@ fn has_legal_half(start: &RepairInput) -> bool {
 fn open_pass(
     alloc: Global,
     placement: &Placement,
-    owner: &PaddedTeam,
-    start: &RepairInput,
+    team: &PaddedTeam,
+    input: &RepairInput,
     search: &RepairSearch<'_>,
 ) -> Result<Pass, AllocError> {
-    let ids = placement.cells().cells_of(owner.team);
+    let ids = placement.cells().cells_of(team.team);
     let mut locked = Vec::with_capacity(alloc, ids.len())?;
-    for (id, legal) in ids.iter().zip(start.legal.iter()) {
+    for (id, legal) in ids.iter().zip(input.legal.iter()) {
         locked.push(*legal && stays_if_legal(placement, *id))?;
     }
-    let originals = start.pass.targets.as_slice();
+    let originals = input.pass.targets.as_slice();
     Ok(Pass {
         locked,
-        impossible: copied(alloc, start.pass.impossible.as_slice())?,
-        targets: target_places(alloc, placement, owner.team, originals, search)?,
+        impossible: copied(alloc, input.pass.impossible.as_slice())?,
+        targets: target_places(alloc, placement, team.team, originals, search)?,
     })
 }
 
@@ -55,18 +55,18 @@ fn open_pass(
 fn working_sites(
     alloc: Global,
     placement: &Placement,
-    owner: &PaddedTeam,
-    land: &FreeRows,
+    team: &PaddedTeam,
+    free_rows: &FreeRows,
     owns: &[u32],
 ) -> Result<Vec<Option<PlannedSite>>, AllocError> {
     let mut sites = Vec::with_capacity(alloc, owns.len())?;
     for own in owns {
-        let place = match placement.cells().cell_of(owner.team, *own as usize) {
+        let place = match placement.cells().cell_of(team.team, *own as usize) {
             Some(id) => placement.cells().working(id),
             None => None,
         };
         sites.push(match place {
-            Some(place) => land.site_at(place.x as i64, place.y as i64),
+            Some(place) => free_rows.site_at(place.x as i64, place.y as i64),
             None => None,
         })?;
     }
@@ -94,26 +94,26 @@ fn tries_of(search: &RepairSearch<'_>, cells: usize, faulty: usize) -> u32 {
 fn window_spots(
     alloc: Global,
     placement: &Placement,
-    owner: &PaddedTeam,
-    start: &RepairInput,
+    team: &PaddedTeam,
+    input: &RepairInput,
     search: &RepairSearch<'_>,
-    land: &FreeRows,
+    free_rows: &FreeRows,
     cells: &PlannerCells,
 ) -> Result<Vec<Option<PlannedSite>>, AllocError> {
     let owns = cells.owns.as_slice();
-    let starts = working_sites(alloc, placement, owner, land, owns)?;
-    let faulty = faulty_cells(alloc, owns, start.legal.as_slice())?;
+    let starts = working_sites(alloc, placement, team, free_rows, owns)?;
+    let faulty = faulty_cells(alloc, owns, input.legal.as_slice())?;
     let options = RecreateOptions {
         height: row_height(placement.frame()),
         centers: faulty.as_slice(),
-        tries: tries_of(search, start.legal.len(), faulty.len()),
+        tries: tries_of(search, input.legal.len(), faulty.len()),
         lowers: true,
         reach: search.reach,
     };
     recreate_plan(
         alloc,
-        land,
-        cells.wishes.as_slice(),
+        free_rows,
+        cells.cells.as_slice(),
         starts.as_slice(),
         &options,
     )
@@ -124,24 +124,24 @@ fn window_spots(
 fn pass_of_moves(
     alloc: Global,
     placement: &Placement,
-    owner: &PaddedTeam,
+    team: &PaddedTeam,
     open: &Pass,
-    land: &FreeRows,
+    free_rows: &FreeRows,
     owns: &[u32],
-    spots: &[Option<PlannedSite>],
+    planned: &[Option<PlannedSite>],
 ) -> Result<Option<Pass>, AllocError> {
-    let mut targets = working_places(alloc, placement, owner.team)?;
+    let mut targets = working_places(alloc, placement, team.team)?;
     let mut locked = vec![in alloc; true; targets.len()]?;
     let mut moves = false;
-    for stop in &planned_cells(alloc, owns, spots)? {
+    for stop in &planned_cells(alloc, owns, planned)? {
         let own = stop.own as usize;
-        let Some(id) = placement.cells().cell_of(owner.team, own) else {
+        let Some(id) = placement.cells().cell_of(team.team, own) else {
             continue;
         };
         let Some(cell) = movable_cell(placement, open, id) else {
             continue;
         };
-        let to = planned_place(placement, &cell, land, stop);
+        let to = planned_place(placement, &cell, free_rows, stop);
         if is_high(placement.frame(), &cell) || to.is_none() {
             continue;
         }
@@ -169,29 +169,29 @@ fn pass_of_moves(
 pub fn plan_window_pass(
     alloc: Global,
     placement: &Placement,
-    owner: &PaddedTeam,
-    start: &RepairInput,
+    team: &PaddedTeam,
+    input: &RepairInput,
     search: &RepairSearch<'_>,
 ) -> Result<Option<LocalPass>, AllocError> {
-    if search.tries == 0 || !has_legal_half(start) {
+    if search.tries == 0 || !has_legal_half(input) {
         return Ok(None);
     }
-    let open = open_pass(alloc, placement, owner, start, search)?;
-    let loose = loose_cells(alloc, placement, owner.team, &open)?;
-    let land = free_rows_without(alloc, placement, owner, loose.as_slice())?;
-    let cells = low_cells(alloc, placement, owner, &open)?;
-    let spots = window_spots(alloc, placement, owner, start, search, &land, &cells)?;
+    let open = open_pass(alloc, placement, team, input, search)?;
+    let loose = loose_cells(alloc, placement, team.team, &open)?;
+    let free_rows = free_rows_without(alloc, placement, team, loose.as_slice())?;
+    let cells = low_cells(alloc, placement, team, &open)?;
+    let planned = window_spots(alloc, placement, team, input, search, &free_rows, &cells)?;
     let owns = cells.owns.as_slice();
     match pass_of_moves(
         alloc,
         placement,
-        owner,
+        team,
         &open,
-        &land,
+        &free_rows,
         owns,
-        spots.as_slice(),
+        planned.as_slice(),
     )? {
-        Some(pass) => Ok(Some(new_local_pass(alloc, placement, owner.team, start, pass, search)?)),
+        Some(pass) => Ok(Some(new_local_pass(alloc, placement, team.team, input, pass, search)?)),
         None => Ok(None),
     }
 }

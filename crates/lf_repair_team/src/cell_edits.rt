@@ -102,30 +102,30 @@ pub(crate) fn continue_unless_out_of_memory(reply: &Reply) -> Result<(), RepairF
 /// Sends an action of the session.
 pub(crate) fn run_action<S: Seeker + Drop, K: Sink>(
     floor: &mut Floor<S>,
-    seat: &TeamSession<'_>,
+    session: &TeamSession<'_>,
     action: Action<&[u8]>,
     line: &mut Vec<u8>,
     lines: &mut K,
 ) -> Result<Reply, RepairFault>
     requires { IsPlainAction (action_of action) }
     ensures run { (l : Legalizer) → IfOk result (λ _.
-        IsWrittenRun l seat.now.team.now floor.old (K.contents lines.old) (K.contents lines.new) floor.new) }
+        IsWrittenRun l session.now.team.now floor.old (K.contents lines.old) (K.contents lines.new) floor.new) }
     ensures err { (l : Legalizer) → OnErr result (
-        IsRunWithCutLine l seat.now.team.now floor.old (K.contents lines.old) (K.contents lines.new) floor.new) }
-    ensures only { ChangesOnly seat.now.team.now floor.old floor.new }
+        IsRunWithCutLine l session.now.team.now floor.old (K.contents lines.old) (K.contents lines.new) floor.new) }
+    ensures only { ChangesOnly session.now.team.now floor.old floor.new }
     ensures requested { (l : Legalizer) → IsUnchangedOrStepped l floor.old
-        (To seat.now.team.now (Within seat.now.session (action_of action.entry))) floor.new }
+        (To session.now.team.now (Within session.now.session (action_of action.entry))) floor.new }
     ensures replied { (l : Legalizer) → IfOk result (λ reply.
-        Step l floor.old (To seat.now.team.now (Within seat.now.session (action_of action.entry))) reply floor.new) }
+        Step l floor.old (To session.now.team.now (Within session.now.session (action_of action.entry))) reply floor.new) }
     ensures committed { (l : Legalizer)
         → IfOk result (λ reply. CommitsLegally l
-        (To seat.now.team.now (Within seat.now.session (action_of action.entry))) reply floor.new) }
+        (To session.now.team.now (Within session.now.session (action_of action.entry))) reply floor.new) }
     ensures refused { IfOk result (λ reply. KeepsIfRefused reply floor.old floor.new) }
 {
     let request = Command::To {
-        team: seat.team,
+        team: session.team,
         order: TeamCommand::Within {
-            session: seat.session,
+            session: session.session,
             action,
         },
     };
@@ -135,7 +135,7 @@ pub(crate) fn run_action<S: Seeker + Drop, K: Sink>(
 /// Sends the edit of the cell with this name.
 fn run_edit_of<S: Seeker + Drop, K: Sink>(
     floor: &mut Floor<S>,
-    seat: &TeamSession<'_>,
+    session: &TeamSession<'_>,
     cell: &[u8],
     step: &Edit,
     line: &mut Vec<u8>,
@@ -143,21 +143,21 @@ fn run_edit_of<S: Seeker + Drop, K: Sink>(
 ) -> Result<(), RepairFault>
     requires { IsLineName cell.now }
     ensures run { (l : Legalizer) → IfOk result (λ _.
-        IsWrittenRun l seat.now.team.now floor.old (K.contents lines.old) (K.contents lines.new) floor.new) }
+        IsWrittenRun l session.now.team.now floor.old (K.contents lines.old) (K.contents lines.new) floor.new) }
     ensures err { (l : Legalizer) → OnErr result (
-        IsRunWithCutLine l seat.now.team.now floor.old (K.contents lines.old) (K.contents lines.new) floor.new) }
-    ensures only { ChangesOnly seat.now.team.now floor.old floor.new }
-    ensures cells { (other : ℕ) → IsAnotherCell floor.old seat.now.team.now cell.now other
-        → place_of_cell_in floor.new seat.now.team.now other ≡ place_of_cell_in floor.old seat.now.team.now other }
-    ensures legal { (other : ℕ) → IsAnotherCell floor.old seat.now.team.now cell.now other
-        → RemainsLegal seat.now.team.now floor.old floor.new other }
-    ensures committed { KeepsCommittedAndSettings seat.now.team.now seat.now.session floor.old floor.new }
+        IsRunWithCutLine l session.now.team.now floor.old (K.contents lines.old) (K.contents lines.new) floor.new) }
+    ensures only { ChangesOnly session.now.team.now floor.old floor.new }
+    ensures cells { (other : ℕ) → IsAnotherCell floor.old session.now.team.now cell.now other
+        → place_of_cell_in floor.new session.now.team.now other ≡ place_of_cell_in floor.old session.now.team.now other }
+    ensures legal { (other : ℕ) → IsAnotherCell floor.old session.now.team.now cell.now other
+        → RemainsLegal session.now.team.now floor.old floor.new other }
+    ensures committed { KeepsCommittedAndSettings session.now.team.now session.now.session floor.old floor.new }
 {
     legalizer_exists();
     legal_in_range();
     floor.teams_match_frame();
     let action = Action::Change(change_of(step, cell));
-    match run_action(floor, seat, action, line, lines) {
+    match run_action(floor, session, action, line, lines) {
         Ok(reply) => continue_unless_out_of_memory(&reply),
         Err(fault) => Err(fault),
     }
@@ -191,36 +191,36 @@ pub(crate) fn copy_name<S: Seeker + Drop>(
 /// Sends the edit of the team's cell at position `own`.
 pub(crate) fn run_edit<S: Seeker + Drop, K: Sink>(
     floor: &mut Floor<S>,
-    seat: &TeamSession<'_>,
+    session: &TeamSession<'_>,
     own: usize,
     step: &Edit,
-    texts: &mut Buffers,
+    buffers: &mut Buffers,
     lines: &mut K,
 ) -> Result<(), RepairFault>
     ensures run { (l : Legalizer) → IfOk result (λ _.
-        IsWrittenRun l seat.now.team.now floor.old (K.contents lines.old) (K.contents lines.new) floor.new) }
+        IsWrittenRun l session.now.team.now floor.old (K.contents lines.old) (K.contents lines.new) floor.new) }
     ensures err { (l : Legalizer) → OnErr result (
-        IsRunWithCutLine l seat.now.team.now floor.old (K.contents lines.old) (K.contents lines.new) floor.new) }
-    ensures only { ChangesOnly seat.now.team.now floor.old floor.new }
+        IsRunWithCutLine l session.now.team.now floor.old (K.contents lines.old) (K.contents lines.new) floor.new) }
+    ensures only { ChangesOnly session.now.team.now floor.old floor.new }
     ensures cells { (other : ℕ) → other ≢ own
-        → place_of_cell_in floor.new seat.now.team.now other ≡ place_of_cell_in floor.old seat.now.team.now other }
-    ensures legal { (other : ℕ) → other ≢ own → RemainsLegal seat.now.team.now floor.old floor.new other }
-    ensures committed { KeepsCommittedAndSettings seat.now.team.now seat.now.session floor.old floor.new }
+        → place_of_cell_in floor.new session.now.team.now other ≡ place_of_cell_in floor.old session.now.team.now other }
+    ensures legal { (other : ℕ) → other ≢ own → RemainsLegal session.now.team.now floor.old floor.new other }
+    ensures committed { KeepsCommittedAndSettings session.now.team.now session.now.session floor.old floor.new }
 {
     floor.teams_match_frame();
-    let Buffers { name, line } = texts;
-    match copy_name(floor, seat.team, own, name) {
-        Ok(true) => run_edit_of(floor, seat, name.as_slice(), step, line, lines),
+    let Buffers { name, line } = buffers;
+    match copy_name(floor, session.team, own, name) {
+        Ok(true) => run_edit_of(floor, session, name.as_slice(), step, line, lines),
         Ok(false) => Ok(()),
         Err(_) => Err(RepairFault::OutOfMemory),
     }
 }
 
 /// Whether the cell at position `own` is locked.
-pub(crate) fn is_locked(marks: &[bool], own: usize) -> bool
-    ensures { IsTrue result ↔ slice_get marks.now own ≡ Some true }
+pub(crate) fn is_locked(locked: &[bool], own: usize) -> bool
+    ensures { IsTrue result ↔ slice_get locked.now own ≡ Some true }
 {
-    match marks.get(own) {
+    match locked.get(own) {
         Some(marked) => *marked,
         None => false,
     }
@@ -229,53 +229,53 @@ pub(crate) fn is_locked(marks: &[bool], own: usize) -> bool
 /// Sends the edit, unless its cell is locked or no place can hold it.
 fn run_edit_unless_locked<S: Seeker + Drop, K: Sink>(
     floor: &mut Floor<S>,
-    seat: &TeamSession<'_>,
-    marks: &[bool],
+    session: &TeamSession<'_>,
+    locked: &[bool],
     cell_edit: &CellEdit,
-    texts: &mut Buffers,
+    buffers: &mut Buffers,
     lines: &mut K,
 ) -> Result<(), RepairFault>
     ensures run { (l : Legalizer) → IfOk result (λ _.
-        IsWrittenRun l seat.now.team.now floor.old (K.contents lines.old) (K.contents lines.new) floor.new) }
+        IsWrittenRun l session.now.team.now floor.old (K.contents lines.old) (K.contents lines.new) floor.new) }
     ensures err { (l : Legalizer) → OnErr result (
-        IsRunWithCutLine l seat.now.team.now floor.old (K.contents lines.old) (K.contents lines.new) floor.new) }
-    ensures only { ChangesOnly seat.now.team.now floor.old floor.new }
-    ensures marked { KeepsLockedPlaces seat.now.team.now marks.now floor.old floor.new }
-    ensures flagged { KeepsLockedPlaces seat.now.team.now seat.now.impossible.now floor.old floor.new }
-    ensures legal { KeepsLockedLegal seat.now.team.now marks.now floor.old floor.new }
-    ensures committed { KeepsCommittedAndSettings seat.now.team.now seat.now.session floor.old floor.new }
+        IsRunWithCutLine l session.now.team.now floor.old (K.contents lines.old) (K.contents lines.new) floor.new) }
+    ensures only { ChangesOnly session.now.team.now floor.old floor.new }
+    ensures marked { KeepsLockedPlaces session.now.team.now locked.now floor.old floor.new }
+    ensures flagged { KeepsLockedPlaces session.now.team.now session.now.impossible.now floor.old floor.new }
+    ensures legal { KeepsLockedLegal session.now.team.now locked.now floor.old floor.new }
+    ensures committed { KeepsCommittedAndSettings session.now.team.now session.now.session floor.old floor.new }
 {
     let own = cell_edit.own as usize;
-    if is_locked(marks, own) {
+    if is_locked(locked, own) {
         return Ok(());
     }
-    if is_locked(seat.impossible, own) {
+    if is_locked(session.impossible, own) {
         return Ok(());
     }
-    run_edit(floor, seat, own, &cell_edit.step, texts, lines)
+    run_edit(floor, session, own, &cell_edit.step, buffers, lines)
 }
 
 /// Sends all edits in their order, except those of cells that are locked or that no place can hold.
 pub fn run_edits<S: Seeker + Drop, K: Sink>(
     floor: &mut Floor<S>,
-    seat: &TeamSession<'_>,
-    marks: &[bool],
+    session: &TeamSession<'_>,
+    locked: &[bool],
     cell_edits: &[CellEdit],
-    texts: &mut Buffers,
+    buffers: &mut Buffers,
     lines: &mut K,
 ) -> Result<(), RepairFault>
     ensures run { (l : Legalizer) → IfOk result (λ _.
-        IsWrittenRun l seat.now.team.now floor.old (K.contents lines.old) (K.contents lines.new) floor.new) }
+        IsWrittenRun l session.now.team.now floor.old (K.contents lines.old) (K.contents lines.new) floor.new) }
     ensures err { (l : Legalizer) → OnErr result (
-        IsRunWithCutLine l seat.now.team.now floor.old (K.contents lines.old) (K.contents lines.new) floor.new) }
-    ensures only { ChangesOnly seat.now.team.now floor.old floor.new }
-    ensures marked { KeepsLockedPlaces seat.now.team.now marks.now floor.old floor.new }
-    ensures flagged { KeepsLockedPlaces seat.now.team.now seat.now.impossible.now floor.old floor.new }
-    ensures legal { KeepsLockedLegal seat.now.team.now marks.now floor.old floor.new }
-    ensures committed { KeepsCommittedAndSettings seat.now.team.now seat.now.session floor.old floor.new }
+        IsRunWithCutLine l session.now.team.now floor.old (K.contents lines.old) (K.contents lines.new) floor.new) }
+    ensures only { ChangesOnly session.now.team.now floor.old floor.new }
+    ensures marked { KeepsLockedPlaces session.now.team.now locked.now floor.old floor.new }
+    ensures flagged { KeepsLockedPlaces session.now.team.now session.now.impossible.now floor.old floor.new }
+    ensures legal { KeepsLockedLegal session.now.team.now locked.now floor.old floor.new }
+    ensures committed { KeepsCommittedAndSettings session.now.team.now session.now.session floor.old floor.new }
 {
     for cell_edit in cell_edits {
-        match run_edit_unless_locked(floor, seat, marks, cell_edit, texts, lines) {
+        match run_edit_unless_locked(floor, session, locked, cell_edit, buffers, lines) {
             Ok(()) => {}
             Err(fault) => return Err(fault),
         }

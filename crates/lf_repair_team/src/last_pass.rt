@@ -35,27 +35,27 @@ use std::alloc::{AllocError, Global};
 /// name.
 pub(crate) fn unplace_cell<S: Seeker + Drop, K: Sink>(
     floor: &mut Floor<S>,
-    seat: &TeamSession<'_>,
+    session: &TeamSession<'_>,
     own: usize,
-    texts: &mut Buffers,
+    buffers: &mut Buffers,
     lines: &mut K,
 ) -> Result<(), RepairFault>
     ensures run { (l : Legalizer) → IfOk result (λ _.
-        IsWrittenRun l seat.now.team.now floor.old (K.contents lines.old) (K.contents lines.new) floor.new) }
+        IsWrittenRun l session.now.team.now floor.old (K.contents lines.old) (K.contents lines.new) floor.new) }
     ensures err { (l : Legalizer) → OnErr result (
-        IsRunWithCutLine l seat.now.team.now floor.old (K.contents lines.old) (K.contents lines.new) floor.new) }
-    ensures only { ChangesOnly seat.now.team.now floor.old floor.new }
+        IsRunWithCutLine l session.now.team.now floor.old (K.contents lines.old) (K.contents lines.new) floor.new) }
+    ensures only { ChangesOnly session.now.team.now floor.old floor.new }
     ensures cells { (other : ℕ) → other ≢ own
-        → place_of_cell_in floor.new seat.now.team.now other ≡ place_of_cell_in floor.old seat.now.team.now other }
-    ensures legal { (other : ℕ) → other ≢ own → RemainsLegal seat.now.team.now floor.old floor.new other }
-    ensures committed { KeepsCommittedAndSettings seat.now.team.now seat.now.session floor.old floor.new }
-    ensures unplaced { OnOk result (place_of_cell_in floor.new seat.now.team.now own ≡ None) }
+        → place_of_cell_in floor.new session.now.team.now other ≡ place_of_cell_in floor.old session.now.team.now other }
+    ensures legal { (other : ℕ) → other ≢ own → RemainsLegal session.now.team.now floor.old floor.new other }
+    ensures committed { KeepsCommittedAndSettings session.now.team.now session.now.session floor.old floor.new }
+    ensures unplaced { OnOk result (place_of_cell_in floor.new session.now.team.now own ≡ None) }
 {
-    match run_edit(floor, seat, own, &Edit::Unplace, texts, lines) {
+    match run_edit(floor, session, own, &Edit::Unplace, buffers, lines) {
         Ok(()) => {}
         Err(fault) => return Err(fault),
     }
-    match floor.place_of(seat.team, own) {
+    match floor.place_of(session.team, own) {
         None => Ok(()),
         Some(_) => Err(RepairFault::Refused(Refusal::NoCell)),
     }
@@ -64,29 +64,29 @@ pub(crate) fn unplace_cell<S: Seeker + Drop, K: Sink>(
 /// Unplaces each of the cells at these positions.
 fn unplace_cells<S: Seeker + Drop, K: Sink>(
     floor: &mut Floor<S>,
-    seat: &TeamSession<'_>,
+    session: &TeamSession<'_>,
     cells: &[u32],
     targets: &[Option<Place>],
     search: &RepairSearch<'_>,
-    texts: &mut Buffers,
+    buffers: &mut Buffers,
     lines: &mut K,
 ) -> Result<(), RepairFault>
-    requires illegal { All (λ own. IsIllegalIn floor.old seat.now.team.now own) cells.now }
-    requires free { All (λ own. IsFlagged seat.now.impossible.now own → ⊥) cells.now }
+    requires illegal { All (λ own. IsIllegalIn floor.old session.now.team.now own) cells.now }
+    requires free { All (λ own. IsFlagged session.now.impossible.now own → ⊥) cells.now }
     ensures run { (l : Legalizer) → IfOk result (λ _.
-        IsWrittenRun l seat.now.team.now floor.old (K.contents lines.old) (K.contents lines.new) floor.new) }
+        IsWrittenRun l session.now.team.now floor.old (K.contents lines.old) (K.contents lines.new) floor.new) }
     ensures err { (l : Legalizer) → OnErr result (
-        IsRunWithCutLine l seat.now.team.now floor.old (K.contents lines.old) (K.contents lines.new) floor.new) }
-    ensures only { ChangesOnly seat.now.team.now floor.old floor.new }
-    ensures legal { KeepsLegalCells seat.now.team.now floor.old floor.new }
-    ensures flagged { KeepsLockedPlaces seat.now.team.now seat.now.impossible.now floor.old floor.new }
-    ensures committed { KeepsCommittedAndSettings seat.now.team.now seat.now.session floor.old floor.new }
-    ensures unplaced { OnOk result (All (λ own. place_of_cell_in floor.new seat.now.team.now own ≡ None) cells.now) }
-    ensures off_soft { OnOk result (MovesOffSoft seat.now.team.now floor.old floor.new) }
-    ensures within { OnOk result (KeepsWithin search.now.reach targets.now seat.now.team.now floor.old floor.new) }
+        IsRunWithCutLine l session.now.team.now floor.old (K.contents lines.old) (K.contents lines.new) floor.new) }
+    ensures only { ChangesOnly session.now.team.now floor.old floor.new }
+    ensures legal { KeepsLegalCells session.now.team.now floor.old floor.new }
+    ensures flagged { KeepsLockedPlaces session.now.team.now session.now.impossible.now floor.old floor.new }
+    ensures committed { KeepsCommittedAndSettings session.now.team.now session.now.session floor.old floor.new }
+    ensures unplaced { OnOk result (All (λ own. place_of_cell_in floor.new session.now.team.now own ≡ None) cells.now) }
+    ensures off_soft { OnOk result (MovesOffSoft session.now.team.now floor.old floor.new) }
+    ensures within { OnOk result (KeepsWithin search.now.reach targets.now session.now.team.now floor.old floor.new) }
 {
     for own in cells {
-        match unplace_cell(floor, seat, *own as usize, texts, lines) {
+        match unplace_cell(floor, session, *own as usize, buffers, lines) {
             Ok(()) => {}
             Err(fault) => return Err(fault),
         }
@@ -97,7 +97,7 @@ fn unplace_cells<S: Seeker + Drop, K: Sink>(
 /// Sends a legalize of the cell with this name.
 fn legalize_named<S: Seeker + Drop, K: Sink>(
     floor: &mut Floor<S>,
-    seat: &TeamSession<'_>,
+    session: &TeamSession<'_>,
     cell: &[u8],
     target: &Point,
     line: &mut Vec<u8>,
@@ -106,31 +106,31 @@ fn legalize_named<S: Seeker + Drop, K: Sink>(
     requires name { IsLineName cell.now }
     requires target { IsTarget target.now }
     ensures run { (l : Legalizer) → IfOk result (λ _.
-        IsWrittenRun l seat.now.team.now floor.old (K.contents lines.old) (K.contents lines.new) floor.new) }
+        IsWrittenRun l session.now.team.now floor.old (K.contents lines.old) (K.contents lines.new) floor.new) }
     ensures err { (l : Legalizer) → OnErr result (
-        IsRunWithCutLine l seat.now.team.now floor.old (K.contents lines.old) (K.contents lines.new) floor.new) }
-    ensures only { ChangesOnly seat.now.team.now floor.old floor.new }
-    ensures cells { (other : ℕ) → IsAnotherCell floor.old seat.now.team.now cell.now other
-        → place_of_cell_in floor.new seat.now.team.now other ≡ place_of_cell_in floor.old seat.now.team.now other }
-    ensures legal { (other : ℕ) → IsAnotherCell floor.old seat.now.team.now cell.now other
-        → RemainsLegal seat.now.team.now floor.old floor.new other }
-    ensures committed { KeepsCommittedAndSettings seat.now.team.now seat.now.session floor.old floor.new }
+        IsRunWithCutLine l session.now.team.now floor.old (K.contents lines.old) (K.contents lines.new) floor.new) }
+    ensures only { ChangesOnly session.now.team.now floor.old floor.new }
+    ensures cells { (other : ℕ) → IsAnotherCell floor.old session.now.team.now cell.now other
+        → place_of_cell_in floor.new session.now.team.now other ≡ place_of_cell_in floor.old session.now.team.now other }
+    ensures legal { (other : ℕ) → IsAnotherCell floor.old session.now.team.now cell.now other
+        → RemainsLegal session.now.team.now floor.old floor.new other }
+    ensures committed { KeepsCommittedAndSettings session.now.team.now session.now.session floor.old floor.new }
     ensures without { (reach : Option ℤ) (old : Option Place) (other : ℕ)
-        → IsAnotherCell floor.old seat.now.team.now cell.now other
-        → ((s : TeamState) (own : ℕ) → state_of floor.old seat.now.team.now ≡ Some s
+        → IsAnotherCell floor.old session.now.team.now cell.now other
+        → ((s : TeamState) (own : ℕ) → state_of floor.old session.now.team.now ≡ Some s
         → cell_named cell.now s.cells ≡ Some own → working_at s.cells own ≡ None)
-        → HasNoPlace reach old floor.old seat.now.team.now other
-        → HasNoPlace reach old floor.new seat.now.team.now other }
+        → HasNoPlace reach old floor.old session.now.team.now other
+        → HasNoPlace reach old floor.new session.now.team.now other }
     ensures refused { (reach : Option ℤ) (old : Option Place) (s : TeamState) (own : ℕ)
-        → state_of floor.old seat.now.team.now ≡ Some s
+        → state_of floor.old session.now.team.now ≡ Some s
         → name_at s.cells own ≡ Some cell.now → working_at s.cells own ≡ None
-        → IfOk result (λ reply. SaysNoPlace reply → HasNoPlace reach old floor.new seat.now.team.now own) }
-    ensures best { (s : TeamState) (own : ℕ) → state_of floor.old seat.now.team.now ≡ Some s
+        → IfOk result (λ reply. SaysNoPlace reply → HasNoPlace reach old floor.new session.now.team.now own) }
+    ensures best { (s : TeamState) (own : ℕ) → state_of floor.old session.now.team.now ≡ Some s
         → name_at s.cells own ≡ Some cell.now → working_at s.cells own ≡ None
-        → IsUnplacedOrAtBest floor.old seat.now.team.now own target.now floor.new }
-    ensures off_soft { (s : TeamState) (own : ℕ) → state_of floor.old seat.now.team.now ≡ Some s
+        → IsUnplacedOrAtBest floor.old session.now.team.now own target.now floor.new }
+    ensures off_soft { (s : TeamState) (own : ℕ) → state_of floor.old session.now.team.now ≡ Some s
         → name_at s.cells own ≡ Some cell.now → working_at s.cells own ≡ None
-        → IsUnplacedOrOffSoft floor.new seat.now.team.now own }
+        → IsUnplacedOrOffSoft floor.new session.now.team.now own }
 {
     legalizer_exists();
     legal_in_range();
@@ -141,7 +141,7 @@ fn legalize_named<S: Seeker + Drop, K: Sink>(
         cell,
         target: *target,
     });
-    run_action(floor, seat, action, line, lines)
+    run_action(floor, session, action, line, lines)
 }
 
 /// `Err` unless the reply says that the cell has no best place.
@@ -191,53 +191,53 @@ fn target_in_last_pass<S: Seeker + Drop>(
 fn legalize_cell<S: Seeker + Drop, K: Sink>(
     alloc: Global,
     floor: &mut Floor<S>,
-    seat: &TeamSession<'_>,
+    session: &TeamSession<'_>,
     own: usize,
     targets: &[Option<Place>],
     search: &RepairSearch<'_>,
-    texts: &mut Buffers,
+    buffers: &mut Buffers,
     lines: &mut K,
 ) -> Result<(), RepairFault>
-    requires { team_number floor.old.frame seat.now.team.now ≡ Some seat.now.number }
+    requires { team_number floor.old.frame session.now.team.now ≡ Some session.now.number }
     ensures run { (l : Legalizer) → IfOk result (λ _.
-        IsWrittenRun l seat.now.team.now floor.old (K.contents lines.old) (K.contents lines.new) floor.new) }
+        IsWrittenRun l session.now.team.now floor.old (K.contents lines.old) (K.contents lines.new) floor.new) }
     ensures err { (l : Legalizer) → OnErr result (
-        IsRunWithCutLine l seat.now.team.now floor.old (K.contents lines.old) (K.contents lines.new) floor.new) }
-    ensures only { ChangesOnly seat.now.team.now floor.old floor.new }
-    ensures legal { KeepsLegalCells seat.now.team.now floor.old floor.new }
-    ensures committed { KeepsCommittedAndSettings seat.now.team.now seat.now.session floor.old floor.new }
+        IsRunWithCutLine l session.now.team.now floor.old (K.contents lines.old) (K.contents lines.new) floor.new) }
+    ensures only { ChangesOnly session.now.team.now floor.old floor.new }
+    ensures legal { KeepsLegalCells session.now.team.now floor.old floor.new }
+    ensures committed { KeepsCommittedAndSettings session.now.team.now session.now.session floor.old floor.new }
     ensures others { (other : ℕ) → other ≢ own
-        → place_of_cell_in floor.new seat.now.team.now other ≡ place_of_cell_in floor.old seat.now.team.now other }
-    ensures without { IsLegalOrUnplaced floor.old seat.now.team.now own
-        → (other : ℕ) → IsWithoutPlace search.now.reach targets.now floor.old seat.now.team.now other → other ≢ own
-        → IsWithoutPlace search.now.reach targets.now floor.new seat.now.team.now other }
-    ensures done { IsLegalOrUnplaced floor.old seat.now.team.now own → OnOk result (
-        IsLegalOrWithoutPlace search.now.reach targets.now floor.new seat.now.team.now own) }
-    ensures off_soft { MovesOffSoft seat.now.team.now floor.old floor.new }
-    ensures within { OnOk result (KeepsWithin search.now.reach targets.now seat.now.team.now floor.old floor.new) }
+        → place_of_cell_in floor.new session.now.team.now other ≡ place_of_cell_in floor.old session.now.team.now other }
+    ensures without { IsLegalOrUnplaced floor.old session.now.team.now own
+        → (other : ℕ) → IsWithoutPlace search.now.reach targets.now floor.old session.now.team.now other → other ≢ own
+        → IsWithoutPlace search.now.reach targets.now floor.new session.now.team.now other }
+    ensures done { IsLegalOrUnplaced floor.old session.now.team.now own → OnOk result (
+        IsLegalOrWithoutPlace search.now.reach targets.now floor.new session.now.team.now own) }
+    ensures off_soft { MovesOffSoft session.now.team.now floor.old floor.new }
+    ensures within { OnOk result (KeepsWithin search.now.reach targets.now session.now.team.now floor.old floor.new) }
 {
     floor.teams_match_frame();
-    match floor.place_of(seat.team, own) {
+    match floor.place_of(session.team, own) {
         Some(_) => return Ok(()),
         None => {}
     }
-    let target = target_in_last_pass(floor, seat.number, own, targets, search);
-    let Buffers { name, line } = texts;
-    match copy_name(floor, seat.team, own, name) {
+    let target = target_in_last_pass(floor, session.number, own, targets, search);
+    let Buffers { name, line } = buffers;
+    match copy_name(floor, session.team, own, name) {
         Ok(true) => {}
         Ok(false) => return Err(RepairFault::Refused(Refusal::NoCell)),
         Err(_) => return Err(RepairFault::OutOfMemory),
     }
-    match is_best_within(alloc, floor, seat, own, targets, search, &target) {
+    match is_best_within(alloc, floor, session, own, targets, search, &target) {
         Ok(true) => {}
         Ok(false) => return Ok(()),
         Err(_) => return Err(RepairFault::OutOfMemory),
     }
-    let reply = match legalize_named(floor, seat, name.as_slice(), &target, line, lines) {
+    let reply = match legalize_named(floor, session, name.as_slice(), &target, line, lines) {
         Ok(reply) => reply,
         Err(fault) => return Err(fault),
     };
-    if floor.is_cell_legal(seat.number, own) {
+    if floor.is_cell_legal(session.number, own) {
         return Ok(());
     }
     stop_unless_no_place(&reply)
@@ -248,38 +248,38 @@ fn legalize_cell<S: Seeker + Drop, K: Sink>(
 fn legalize_cells<S: Seeker + Drop, K: Sink>(
     alloc: Global,
     floor: &mut Floor<S>,
-    seat: &TeamSession<'_>,
+    session: &TeamSession<'_>,
     cells: &[u32],
     targets: &[Option<Place>],
     search: &RepairSearch<'_>,
-    texts: &mut Buffers,
+    buffers: &mut Buffers,
     lines: &mut K,
 ) -> Result<(), RepairFault>
-    requires number { team_number floor.old.frame seat.now.team.now ≡ Some seat.now.number }
-    requires unplaced { All (λ own. place_of_cell_in floor.old seat.now.team.now own ≡ None) cells.now }
-    requires free { All (λ own. IsFlagged seat.now.impossible.now own → ⊥) cells.now }
+    requires number { team_number floor.old.frame session.now.team.now ≡ Some session.now.number }
+    requires unplaced { All (λ own. place_of_cell_in floor.old session.now.team.now own ≡ None) cells.now }
+    requires free { All (λ own. IsFlagged session.now.impossible.now own → ⊥) cells.now }
     ensures run { (l : Legalizer) → IfOk result (λ _.
-        IsWrittenRun l seat.now.team.now floor.old (K.contents lines.old) (K.contents lines.new) floor.new) }
+        IsWrittenRun l session.now.team.now floor.old (K.contents lines.old) (K.contents lines.new) floor.new) }
     ensures err { (l : Legalizer) → OnErr result (
-        IsRunWithCutLine l seat.now.team.now floor.old (K.contents lines.old) (K.contents lines.new) floor.new) }
-    ensures only { ChangesOnly seat.now.team.now floor.old floor.new }
-    ensures legal { KeepsLegalCells seat.now.team.now floor.old floor.new }
-    ensures flagged { KeepsLockedPlaces seat.now.team.now seat.now.impossible.now floor.old floor.new }
-    ensures committed { KeepsCommittedAndSettings seat.now.team.now seat.now.session floor.old floor.new }
+        IsRunWithCutLine l session.now.team.now floor.old (K.contents lines.old) (K.contents lines.new) floor.new) }
+    ensures only { ChangesOnly session.now.team.now floor.old floor.new }
+    ensures legal { KeepsLegalCells session.now.team.now floor.old floor.new }
+    ensures flagged { KeepsLockedPlaces session.now.team.now session.now.impossible.now floor.old floor.new }
+    ensures committed { KeepsCommittedAndSettings session.now.team.now session.now.session floor.old floor.new }
     ensures done { OnOk result (All (λ own.
-        IsLegalOrWithoutPlace search.now.reach targets.now floor.new seat.now.team.now own) cells.now) }
-    ensures off_soft { OnOk result (MovesOffSoft seat.now.team.now floor.old floor.new) }
-    ensures within { OnOk result (KeepsWithin search.now.reach targets.now seat.now.team.now floor.old floor.new) }
+        IsLegalOrWithoutPlace search.now.reach targets.now floor.new session.now.team.now own) cells.now) }
+    ensures off_soft { OnOk result (MovesOffSoft session.now.team.now floor.old floor.new) }
+    ensures within { OnOk result (KeepsWithin search.now.reach targets.now session.now.team.now floor.old floor.new) }
 {
     for own in cells {
         match legalize_cell(
             alloc,
             floor,
-            seat,
+            session,
             *own as usize,
             targets,
             search,
-            texts,
+            buffers,
             lines,
         ) {
             Ok(()) => {}
@@ -319,42 +319,42 @@ fn movable_of(alloc: Global, cells: &[u32], flags: &[bool]) -> Result<Vec<u32>, 
 pub(crate) fn run_last_pass<S: Seeker + Drop, K: Sink>(
     alloc: Global,
     floor: &mut Floor<S>,
-    seat: &TeamSession<'_>,
+    session: &TeamSession<'_>,
     targets: &[Option<Place>],
     search: &RepairSearch<'_>,
-    texts: &mut Buffers,
+    buffers: &mut Buffers,
     lines: &mut K,
 ) -> Result<Vec<u32>, RepairFault>
-    requires { team_number floor.old.frame seat.now.team.now ≡ Some seat.now.number }
+    requires { team_number floor.old.frame session.now.team.now ≡ Some session.now.number }
     ensures run { (l : Legalizer) → IfOk result (λ _.
-        IsWrittenRun l seat.now.team.now floor.old (K.contents lines.old) (K.contents lines.new) floor.new) }
+        IsWrittenRun l session.now.team.now floor.old (K.contents lines.old) (K.contents lines.new) floor.new) }
     ensures err { (l : Legalizer) → OnErr result (
-        IsRunWithCutLine l seat.now.team.now floor.old (K.contents lines.old) (K.contents lines.new) floor.new) }
-    ensures only { ChangesOnly seat.now.team.now floor.old floor.new }
-    ensures legal { KeepsLegalCells seat.now.team.now floor.old floor.new }
-    ensures flagged { KeepsLockedPlaces seat.now.team.now seat.now.impossible.now floor.old floor.new }
-    ensures committed { KeepsCommittedAndSettings seat.now.team.now seat.now.session floor.old floor.new }
-    ensures unrepaired { IfOk result (λ left.
-        AreUnrepaired search.now.reach targets.now seat.now.team.now seat.now.impossible.now floor.new left.items) }
-    ensures off_soft { OnOk result (MovesOffSoft seat.now.team.now floor.old floor.new) }
-    ensures within { OnOk result (KeepsWithin search.now.reach targets.now seat.now.team.now floor.old floor.new) }
+        IsRunWithCutLine l session.now.team.now floor.old (K.contents lines.old) (K.contents lines.new) floor.new) }
+    ensures only { ChangesOnly session.now.team.now floor.old floor.new }
+    ensures legal { KeepsLegalCells session.now.team.now floor.old floor.new }
+    ensures flagged { KeepsLockedPlaces session.now.team.now session.now.impossible.now floor.old floor.new }
+    ensures committed { KeepsCommittedAndSettings session.now.team.now session.now.session floor.old floor.new }
+    ensures unrepaired { IfOk result (λ unrepaired.
+        AreUnrepaired search.now.reach targets.now session.now.team.now session.now.impossible.now floor.new unrepaired.items) }
+    ensures off_soft { OnOk result (MovesOffSoft session.now.team.now floor.old floor.new) }
+    ensures within { OnOk result (KeepsWithin search.now.reach targets.now session.now.team.now floor.old floor.new) }
 {
-    let Ok(left) = illegal_cells(alloc, floor, seat) else {
+    let Ok(unrepaired) = illegal_cells(alloc, floor, session) else {
         return Err(RepairFault::OutOfMemory);
     };
-    let Ok(movable) = movable_of(alloc, left.as_slice(), seat.impossible) else {
+    let Ok(movable) = movable_of(alloc, unrepaired.as_slice(), session.impossible) else {
         return Err(RepairFault::OutOfMemory);
     };
     if movable.as_slice().is_empty() {
-        return Ok(left);
+        return Ok(unrepaired);
     }
     match unplace_cells(
         floor,
-        seat,
+        session,
         movable.as_slice(),
         targets,
         search,
-        texts,
+        buffers,
         lines,
     ) {
         Ok(()) => {}
@@ -363,18 +363,18 @@ pub(crate) fn run_last_pass<S: Seeker + Drop, K: Sink>(
     match legalize_cells(
         alloc,
         floor,
-        seat,
+        session,
         movable.as_slice(),
         targets,
         search,
-        texts,
+        buffers,
         lines,
     ) {
         Ok(()) => {}
         Err(fault) => return Err(fault),
     }
-    match illegal_cells(alloc, floor, seat) {
-        Ok(left) => Ok(left),
+    match illegal_cells(alloc, floor, session) {
+        Ok(unrepaired) => Ok(unrepaired),
         Err(_) => Err(RepairFault::OutOfMemory),
     }
 }

@@ -68,22 +68,22 @@ fn is_on_soft(placement: &Placement, number: usize, own: usize, place: &Place) -
 /// `targets`.
 fn has_moved_onto_soft<S: Seeker + Drop>(
     floor: &Floor<S>,
-    seat: &TeamSession<'_>,
+    session: &TeamSession<'_>,
     own: usize,
     targets: &[Option<Place>],
 ) -> bool
-    requires { team_number floor.now.frame seat.now.team.now ≡ Some seat.now.number }
-    ensures moved { (s : TeamState) → state_of floor.now seat.now.team.now ≡ Some s → IsTrue result
-        → place_of_cell_in floor.now seat.now.team.now own ≢ target_at targets.now own }
-    ensures settled { result ≡ false → IsAtTargetOrOffSoft seat.now.team.now targets.now floor.now own }
+    requires { team_number floor.now.frame session.now.team.now ≡ Some session.now.number }
+    ensures moved { (s : TeamState) → state_of floor.now session.now.team.now ≡ Some s → IsTrue result
+        → place_of_cell_in floor.now session.now.team.now own ≢ target_at targets.now own }
+    ensures settled { result ≡ false → IsAtTargetOrOffSoft session.now.team.now targets.now floor.now own }
 {
     let placement = floor.placement();
-    let now = place_at(placement, seat.number, own);
+    let now = place_at(placement, session.number, own);
     if same_place(now, target_place(targets, own)) {
         return false;
     }
     match now {
-        Some(place) => is_on_soft(placement, seat.number, own, &place),
+        Some(place) => is_on_soft(placement, session.number, own, &place),
         None => false,
     }
 }
@@ -91,15 +91,15 @@ fn has_moved_onto_soft<S: Seeker + Drop>(
 /// Whether each cell of the team is at its place in `targets`, unplaced, or off soft blockages.
 pub fn are_off_soft<S: Seeker + Drop>(
     floor: &Floor<S>,
-    seat: &TeamSession<'_>,
+    session: &TeamSession<'_>,
     targets: &[Option<Place>],
 ) -> bool
-    requires { team_number floor.now.frame seat.now.team.now ≡ Some seat.now.number }
-    ensures { IsTrue result → AreAtTargetsOrOffSoft seat.now.team.now targets.now floor.now }
+    requires { team_number floor.now.frame session.now.team.now ≡ Some session.now.number }
+    ensures { IsTrue result → AreAtTargetsOrOffSoft session.now.team.now targets.now floor.now }
 {
-    let count = floor.placement().cells().cells_of(seat.number).len();
+    let count = floor.placement().cells().cells_of(session.number).len();
     for own in 0..count {
-        if has_moved_onto_soft(floor, seat, own, targets) {
+        if has_moved_onto_soft(floor, session, own, targets) {
             return false;
         }
     }
@@ -110,76 +110,76 @@ pub fn are_off_soft<S: Seeker + Drop>(
 /// `targets`.
 fn is_misplaced<S: Seeker + Drop>(
     floor: &Floor<S>,
-    seat: &TeamSession<'_>,
+    session: &TeamSession<'_>,
     own: usize,
     targets: &[Option<Place>],
     search: &RepairSearch<'_>,
 ) -> bool
-    requires { team_number floor.now.frame seat.now.team.now ≡ Some seat.now.number }
-    ensures moved { (s : TeamState) → state_of floor.now seat.now.team.now ≡ Some s → IsTrue result
-        → place_of_cell_in floor.now seat.now.team.now own ≢ target_at targets.now own }
-    ensures settled { result ≡ false → IsAtTargetOrOffSoft seat.now.team.now targets.now floor.now own }
-    ensures within { result ≡ false → IsWithin search.now.reach targets.now floor.now seat.now.team.now own }
+    requires { team_number floor.now.frame session.now.team.now ≡ Some session.now.number }
+    ensures moved { (s : TeamState) → state_of floor.now session.now.team.now ≡ Some s → IsTrue result
+        → place_of_cell_in floor.now session.now.team.now own ≢ target_at targets.now own }
+    ensures settled { result ≡ false → IsAtTargetOrOffSoft session.now.team.now targets.now floor.now own }
+    ensures within { result ≡ false → IsWithin search.now.reach targets.now floor.now session.now.team.now own }
 {
-    if has_moved_onto_soft(floor, seat, own, targets) {
+    if has_moved_onto_soft(floor, session, own, targets) {
         return true;
     }
-    has_moved_too_far(floor, seat, own, targets, search)
+    has_moved_too_far(floor, session, own, targets, search)
 }
 
 /// Unplaces the cell at position `own` if it is misplaced; otherwise sends no command.
 fn unplace_if_misplaced<S: Seeker + Drop, K: Sink>(
     floor: &mut Floor<S>,
-    seat: &TeamSession<'_>,
+    session: &TeamSession<'_>,
     own: usize,
     targets: &[Option<Place>],
     search: &RepairSearch<'_>,
-    texts: &mut Buffers,
+    buffers: &mut Buffers,
     lines: &mut K,
 ) -> Result<(), RepairFault>
-    requires { team_number floor.old.frame seat.now.team.now ≡ Some seat.now.number }
+    requires { team_number floor.old.frame session.now.team.now ≡ Some session.now.number }
     ensures run { (l : Legalizer) → IfOk result (λ _.
-        IsWrittenRun l seat.now.team.now floor.old (K.contents lines.old) (K.contents lines.new) floor.new) }
+        IsWrittenRun l session.now.team.now floor.old (K.contents lines.old) (K.contents lines.new) floor.new) }
     ensures err { (l : Legalizer) → OnErr result (
-        IsRunWithCutLine l seat.now.team.now floor.old (K.contents lines.old) (K.contents lines.new) floor.new) }
-    ensures only { ChangesOnly seat.now.team.now floor.old floor.new }
-    ensures committed { KeepsCommittedAndSettings seat.now.team.now seat.now.session floor.old floor.new }
+        IsRunWithCutLine l session.now.team.now floor.old (K.contents lines.old) (K.contents lines.new) floor.new) }
+    ensures only { ChangesOnly session.now.team.now floor.old floor.new }
+    ensures committed { KeepsCommittedAndSettings session.now.team.now session.now.session floor.old floor.new }
     ensures others { (other : ℕ) → other ≢ own
-        → place_of_cell_in floor.new seat.now.team.now other ≡ place_of_cell_in floor.old seat.now.team.now other }
-    ensures targets { KeepsCellsAtTargets seat.now.team.now targets.now floor.old floor.new }
-    ensures settled { OnOk result (IsAtTargetOrOffSoft seat.now.team.now targets.now floor.new own) }
-    ensures within { OnOk result (IsWithin search.now.reach targets.now floor.new seat.now.team.now own) }
+        → place_of_cell_in floor.new session.now.team.now other ≡ place_of_cell_in floor.old session.now.team.now other }
+    ensures targets { KeepsCellsAtTargets session.now.team.now targets.now floor.old floor.new }
+    ensures settled { OnOk result (IsAtTargetOrOffSoft session.now.team.now targets.now floor.new own) }
+    ensures within { OnOk result (IsWithin search.now.reach targets.now floor.new session.now.team.now own) }
 {
-    if !is_misplaced(floor, seat, own, targets, search) {
+    if !is_misplaced(floor, session, own, targets, search) {
         return Ok(());
     }
-    unplace_cell(floor, seat, own, texts, lines)
+    unplace_cell(floor, session, own, buffers, lines)
 }
 
 /// Runs the pass over misplaced cells: unplaces the cells that are on a soft blockage and not at their
 /// places in `targets`, and those that are beyond reach of them. Other cells do not move.
 pub(crate) fn run_misplaced_pass<S: Seeker + Drop, K: Sink>(
     floor: &mut Floor<S>,
-    seat: &TeamSession<'_>,
+    session: &TeamSession<'_>,
     targets: &[Option<Place>],
     search: &RepairSearch<'_>,
-    texts: &mut Buffers,
+    buffers: &mut Buffers,
     lines: &mut K,
 ) -> Result<(), RepairFault>
-    requires { team_number floor.old.frame seat.now.team.now ≡ Some seat.now.number }
+    requires { team_number floor.old.frame session.now.team.now ≡ Some session.now.number }
     ensures run { (l : Legalizer) → IfOk result (λ _.
-        IsWrittenRun l seat.now.team.now floor.old (K.contents lines.old) (K.contents lines.new) floor.new) }
+        IsWrittenRun l session.now.team.now floor.old (K.contents lines.old) (K.contents lines.new) floor.new) }
     ensures err { (l : Legalizer) → OnErr result (
-        IsRunWithCutLine l seat.now.team.now floor.old (K.contents lines.old) (K.contents lines.new) floor.new) }
-    ensures only { ChangesOnly seat.now.team.now floor.old floor.new }
-    ensures committed { KeepsCommittedAndSettings seat.now.team.now seat.now.session floor.old floor.new }
-    ensures targets { KeepsCellsAtTargets seat.now.team.now targets.now floor.old floor.new }
-    ensures settled { OnOk result (AreAtTargetsOrOffSoft seat.now.team.now targets.now floor.new) }
-    ensures within { OnOk result (AreWithin search.now.reach targets.now seat.now.team.now floor.new) }
+        IsRunWithCutLine l session.now.team.now floor.old (K.contents lines.old) (K.contents lines.new) floor.new) }
+    ensures only { ChangesOnly session.now.team.now floor.old floor.new }
+    ensures committed { KeepsCommittedAndSettings session.now.team.now session.now.session floor.old floor.new }
+    ensures targets { KeepsCellsAtTargets session.now.team.now targets.now floor.old floor.new }
+    ensures settled { OnOk result (AreAtTargetsOrOffSoft session.now.team.now targets.now floor.new) }
+    ensures within { OnOk result (AreWithin search.now.reach targets.now session.now.team.now floor.new) }
 {
-    let count = floor.placement().cells().cells_of(seat.number).len();
+    let count = floor.placement().cells().cells_of(session.number).len();
     for own in 0..count {
-        match unplace_if_misplaced(floor, seat, own, targets, search, texts, lines) {
+        match unplace_if_misplaced(floor, session, own, targets, search, buffers, lines) {
             Ok(()) => {}
             Err(fault) => return Err(fault),
         }

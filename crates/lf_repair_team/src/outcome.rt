@@ -72,17 +72,17 @@ fn changed_cells(
 /// Lists the cell, unless it is legal.
 fn note_illegal<S: Seeker + Drop>(
     floor: &Floor<S>,
-    seat: &TeamSession<'_>,
+    session: &TeamSession<'_>,
     id: CellId,
-    left: &mut Vec<u32>,
+    unrepaired: &mut Vec<u32>,
 ) -> Result<(), AllocError>
-    requires { team_number floor.now.frame seat.now.team.now ≡ Some seat.now.number }
-    ensures { OnOk result (IsLegalOrListed seat.now.team.now floor.now id.own left.old.items left.new.items) }
+    requires { team_number floor.now.frame session.now.team.now ≡ Some session.now.number }
+    ensures { OnOk result (IsLegalOrListed session.now.team.now floor.now id.own unrepaired.old.items unrepaired.new.items) }
 {
-    if floor.is_cell_legal(seat.number, id.own as usize) {
+    if floor.is_cell_legal(session.number, id.own as usize) {
         return Ok(());
     }
-    left.push(id.own)?;
+    unrepaired.push(id.own)?;
     Ok(())
 }
 
@@ -90,36 +90,39 @@ fn note_illegal<S: Seeker + Drop>(
 pub(crate) fn illegal_cells<S: Seeker + Drop>(
     alloc: Global,
     floor: &Floor<S>,
-    seat: &TeamSession<'_>,
+    session: &TeamSession<'_>,
 ) -> Result<Vec<u32>, AllocError>
-    requires { team_number floor.now.frame seat.now.team.now ≡ Some seat.now.number }
-    ensures named { IfOk result (λ left. AreLegalExcept seat.now.team.now floor.now left.items) }
-    ensures illegal { IfOk result (λ left. All (λ own. IsIllegalIn floor.now seat.now.team.now own) left.items) }
+    requires { team_number floor.now.frame session.now.team.now ≡ Some session.now.number }
+    ensures named { IfOk result (λ left. AreLegalExcept session.now.team.now floor.now left.items) }
+    ensures illegal { IfOk result (λ left. All (λ own. IsIllegalIn floor.now session.now.team.now own) left.items) }
     ensures rise { IfOk result (λ left. AllPairs (λ own later. own < later) left.items) }
 {
     let mut left = Vec::new(alloc);
-    for id in floor.placement().cells().cells_of(seat.number) {
-        note_illegal(floor, seat, *id, &mut left)?;
+    for id in floor.placement().cells().cells_of(session.number) {
+        note_illegal(floor, session, *id, &mut left)?;
     }
     Ok(left)
 }
 
-/// The outcome for the team, whose cells had these original places. `left` has the cells that are
+/// The outcome for the team, whose cells had these original places. `unrepaired` has the cells that are
 /// not legal. `Err` if an allocation fails.
 pub(crate) fn found_of<S: Seeker + Drop>(
     alloc: Global,
     floor: &Floor<S>,
-    seat: &TeamSession<'_>,
+    session: &TeamSession<'_>,
     targets: &[Option<Place>],
-    left: Vec<u32>,
+    unrepaired: Vec<u32>,
 ) -> Result<RepairOutcome, AllocError>
-    requires { team_number floor.now.frame seat.now.team.now ≡ Some seat.now.number }
+    requires { team_number floor.now.frame session.now.team.now ≡ Some session.now.number }
     ensures changed { IfOk result (λ found.
-        TeamIsAtTargetsExcept seat.now.team.now targets.now floor.now found.changed.items) }
+        TeamIsAtTargetsExcept session.now.team.now targets.now floor.now found.changed.items) }
     ensures moved { IfOk result (λ found.
-        TeamHasLeftTargets seat.now.team.now targets.now floor.now found.changed.items) }
-    ensures left { IfOk result (λ found. found.left.items ≡ left.items) }
+        TeamHasLeftTargets session.now.team.now targets.now floor.now found.changed.items) }
+    ensures unrepaired { IfOk result (λ found. found.left.items ≡ unrepaired.items) }
 {
-    let changed = changed_cells(alloc, floor.placement(), seat.number, targets)?;
-    Ok(RepairOutcome { changed, left })
+    let changed = changed_cells(alloc, floor.placement(), session.number, targets)?;
+    Ok(RepairOutcome {
+        changed,
+        left: unrepaired,
+    })
 }

@@ -66,15 +66,15 @@ fn is_beyond(search: &RepairSearch<'_>, old: Option<Place>, place: &Place) -> bo
 /// Whether the cell at position `own` is beyond reach of its place in `targets`.
 pub(crate) fn has_moved_too_far<S: Seeker + Drop>(
     floor: &Floor<S>,
-    seat: &TeamSession<'_>,
+    session: &TeamSession<'_>,
     own: usize,
     targets: &[Option<Place>],
     search: &RepairSearch<'_>,
 ) -> bool
-    ensures moved { IsTrue result → place_of_cell_in floor.now seat.now.team.now own ≢ target_at targets.now own }
-    ensures within { result ≡ false → IsWithin search.now.reach targets.now floor.now seat.now.team.now own }
+    ensures moved { IsTrue result → place_of_cell_in floor.now session.now.team.now own ≢ target_at targets.now own }
+    ensures within { result ≡ false → IsWithin search.now.reach targets.now floor.now session.now.team.now own }
 {
-    match floor.place_of(seat.team, own) {
+    match floor.place_of(session.team, own) {
         Some(place) => is_beyond(search, target_place(targets, own), &place),
         None => false,
     }
@@ -109,20 +109,20 @@ fn best_place_of<S: Seeker + Drop>(
 pub(crate) fn is_best_within<S: Seeker + Drop>(
     alloc: Global,
     floor: &Floor<S>,
-    seat: &TeamSession<'_>,
+    session: &TeamSession<'_>,
     own: usize,
     targets: &[Option<Place>],
     search: &RepairSearch<'_>,
     target: &Point,
 ) -> Result<bool, AllocError>
-    requires number { team_number floor.now.frame seat.now.team.now ≡ Some seat.now.number }
+    requires number { team_number floor.now.frame session.now.team.now ≡ Some session.now.number }
     requires target { (p : Place) → target_at targets.now own ≡ Some p → target.now ≡ corner_of p }
     ensures near { IfOk result (λ is_near. IsTrue is_near
-        → BestIsWithin search.now.reach targets.now floor.now seat.now.team.now own target.now) }
-    ensures none { (s : TeamState) (c : Cell) → state_of floor.now seat.now.team.now ≡ Some s
+        → BestIsWithin search.now.reach targets.now floor.now session.now.team.now own target.now) }
+    ensures none { (s : TeamState) (c : Cell) → state_of floor.now session.now.team.now ≡ Some s
         → slice_get s.cells own ≡ Some c → c.working ≡ None
         → IfOk result (λ is_near. is_near ≡ false
-        → IsWithoutPlace search.now.reach targets.now floor.now seat.now.team.now own) }
+        → IsWithoutPlace search.now.reach targets.now floor.now session.now.team.now own) }
 {
     match search.reach {
         Some(_) => {}
@@ -131,7 +131,7 @@ pub(crate) fn is_best_within<S: Seeker + Drop>(
     let Some(old) = target_place(targets, own) else {
         return Ok(true);
     };
-    match best_place_of(alloc, floor, seat.number, own, target)? {
+    match best_place_of(alloc, floor, session.number, own, target)? {
         Some(best) => Ok(!is_beyond(search, Some(old), &best)),
         None => Ok(false),
     }

@@ -118,7 +118,7 @@ pub fn team_input<S: Seeker + Drop>(
     floor: &Floor<S>,
     team: &[u8],
     number: usize,
-    how: MovePolicy,
+    policy: MovePolicy,
     impossible: &[ImpossibleMacro],
 ) -> Result<RepairInput, AllocError>
     requires { team_number floor.now.frame team.now ≡ Some number }
@@ -130,14 +130,14 @@ pub fn team_input<S: Seeker + Drop>(
         AreWorkingPlaces s.cells start.pass.targets.items) }
     ensures flagged { IfOk result (λ start.
         AreListedFlags impossible.now team.now floor.now start.pass.impossible.items) }
-    ensures how { IfOk result (λ start. start.how ≡ how) }
+    ensures policy { IfOk result (λ start. start.how ≡ policy) }
 {
     let legal = legal_of(alloc, floor, number)?;
     let marks = initial_locks(alloc, legal.as_slice())?;
     let flags = listed_of(alloc, floor, team, number, impossible)?;
     let targets = working_places(alloc, floor.placement(), number)?;
     Ok(RepairInput {
-        how,
+        how: policy,
         legal,
         pass: Pass {
             locked: marks,

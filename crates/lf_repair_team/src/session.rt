@@ -20,7 +20,7 @@ use lf_rules::legalizer_exists;
 pub fn open<S: Seeker + Drop, K: Sink>(
     floor: &mut Floor<S>,
     team: &[u8],
-    texts: &mut Buffers,
+    buffers: &mut Buffers,
     lines: &mut K,
 ) -> Result<u32, RepairFault>
     ensures run { (l : Legalizer) → IfOk result (λ _.
@@ -38,7 +38,7 @@ pub fn open<S: Seeker + Drop, K: Sink>(
         team,
         order: TeamCommand::Open,
     };
-    match run_command(floor, &request, &mut texts.line, lines) {
+    match run_command(floor, &request, &mut buffers.line, lines) {
         Ok(reply) => session_of(&reply),
         Err(fault) => Err(fault),
     }
@@ -58,22 +58,22 @@ fn session_of(reply: &Reply) -> Result<u32, RepairFault>
 /// Commits the team.
 pub(crate) fn commit<S: Seeker + Drop, K: Sink>(
     floor: &mut Floor<S>,
-    seat: &TeamSession<'_>,
-    texts: &mut Buffers,
+    session: &TeamSession<'_>,
+    buffers: &mut Buffers,
     lines: &mut K,
 ) -> Result<(), RepairFault>
     ensures run { (l : Legalizer) → IfOk result (λ _.
-        IsWrittenRun l seat.now.team.now floor.old (K.contents lines.old) (K.contents lines.new) floor.new) }
+        IsWrittenRun l session.now.team.now floor.old (K.contents lines.old) (K.contents lines.new) floor.new) }
     ensures err { (l : Legalizer) → OnErr result (
-        IsRunWithCutLine l seat.now.team.now floor.old (K.contents lines.old) (K.contents lines.new) floor.new) }
-    ensures only { ChangesOnly seat.now.team.now floor.old floor.new }
-    ensures places { KeepsPlaces seat.now.team.now floor.old floor.new }
-    ensures settings { KeepsOtherSettings seat.now.team.now seat.now.session floor.old floor.new }
-    ensures committed { (l : Legalizer) → IfOk result (λ _. AllCommittedIn l floor.new seat.now.team.now) }
+        IsRunWithCutLine l session.now.team.now floor.old (K.contents lines.old) (K.contents lines.new) floor.new) }
+    ensures only { ChangesOnly session.now.team.now floor.old floor.new }
+    ensures places { KeepsPlaces session.now.team.now floor.old floor.new }
+    ensures settings { KeepsOtherSettings session.now.team.now session.now.session floor.old floor.new }
+    ensures committed { (l : Legalizer) → IfOk result (λ _. AllCommittedIn l floor.new session.now.team.now) }
 {
     legalizer_exists();
     let action = Action::Change(Change::Commit);
-    match run_action(floor, seat, action, &mut texts.line, lines) {
+    match run_action(floor, session, action, &mut buffers.line, lines) {
         Ok(reply) => accepted(&reply),
         Err(fault) => Err(fault),
     }
@@ -83,24 +83,24 @@ pub(crate) fn commit<S: Seeker + Drop, K: Sink>(
 /// memory ran out.
 pub fn try_commit<S: Seeker + Drop, K: Sink>(
     floor: &mut Floor<S>,
-    seat: &TeamSession<'_>,
-    texts: &mut Buffers,
+    session: &TeamSession<'_>,
+    buffers: &mut Buffers,
     lines: &mut K,
 ) -> Result<bool, RepairFault>
     ensures run { (l : Legalizer) → IfOk result (λ _.
-        IsWrittenRun l seat.now.team.now floor.old (K.contents lines.old) (K.contents lines.new) floor.new) }
+        IsWrittenRun l session.now.team.now floor.old (K.contents lines.old) (K.contents lines.new) floor.new) }
     ensures err { (l : Legalizer) → OnErr result (
-        IsRunWithCutLine l seat.now.team.now floor.old (K.contents lines.old) (K.contents lines.new) floor.new) }
-    ensures only { ChangesOnly seat.now.team.now floor.old floor.new }
-    ensures places { KeepsPlaces seat.now.team.now floor.old floor.new }
-    ensures settings { KeepsOtherSettings seat.now.team.now seat.now.session floor.old floor.new }
+        IsRunWithCutLine l session.now.team.now floor.old (K.contents lines.old) (K.contents lines.new) floor.new) }
+    ensures only { ChangesOnly session.now.team.now floor.old floor.new }
+    ensures places { KeepsPlaces session.now.team.now floor.old floor.new }
+    ensures settings { KeepsOtherSettings session.now.team.now session.now.session floor.old floor.new }
     ensures committed { (l : Legalizer) → IfOk result (λ is_done.
-        IsTrue is_done → AllCommittedIn l floor.new seat.now.team.now) }
+        IsTrue is_done → AllCommittedIn l floor.new session.now.team.now) }
     ensures refused { IfOk result (λ is_done. is_done ≡ false → floor.new ≡ floor.old) }
 {
     legalizer_exists();
     let action = Action::Change(Change::Commit);
-    match run_action(floor, seat, action, &mut texts.line, lines) {
+    match run_action(floor, session, action, &mut buffers.line, lines) {
         Ok(reply) => done_unless_out_of_memory(&reply),
         Err(fault) => Err(fault),
     }
@@ -129,21 +129,21 @@ fn accepted(reply: &Reply) -> Result<(), RepairFault>
 /// Moves all cells of the team back to their committed places. `Err` if the floor refuses it.
 pub fn revert<S: Seeker + Drop, K: Sink>(
     floor: &mut Floor<S>,
-    seat: &TeamSession<'_>,
-    texts: &mut Buffers,
+    session: &TeamSession<'_>,
+    buffers: &mut Buffers,
     lines: &mut K,
 ) -> Result<(), RepairFault>
     ensures run { (l : Legalizer) → IfOk result (λ _.
-        IsWrittenRun l seat.now.team.now floor.old (K.contents lines.old) (K.contents lines.new) floor.new) }
+        IsWrittenRun l session.now.team.now floor.old (K.contents lines.old) (K.contents lines.new) floor.new) }
     ensures err { (l : Legalizer) → OnErr result (
-        IsRunWithCutLine l seat.now.team.now floor.old (K.contents lines.old) (K.contents lines.new) floor.new) }
-    ensures only { ChangesOnly seat.now.team.now floor.old floor.new }
-    ensures committed { KeepsCommittedAndSettings seat.now.team.now seat.now.session floor.old floor.new }
-    ensures back { OnOk result (AreBackAtCommitted seat.now.team.now floor.old floor.new) }
+        IsRunWithCutLine l session.now.team.now floor.old (K.contents lines.old) (K.contents lines.new) floor.new) }
+    ensures only { ChangesOnly session.now.team.now floor.old floor.new }
+    ensures committed { KeepsCommittedAndSettings session.now.team.now session.now.session floor.old floor.new }
+    ensures back { OnOk result (AreBackAtCommitted session.now.team.now floor.old floor.new) }
 {
     legalizer_exists();
     let action = Action::Change(Change::Revert);
-    match run_action(floor, seat, action, &mut texts.line, lines) {
+    match run_action(floor, session, action, &mut buffers.line, lines) {
         Ok(reply) => accepted(&reply),
         Err(fault) => Err(fault),
     }
@@ -152,22 +152,22 @@ pub fn revert<S: Seeker + Drop, K: Sink>(
 /// Closes the session, which frees its slot.
 pub fn close<S: Seeker + Drop, K: Sink>(
     floor: &mut Floor<S>,
-    seat: &TeamSession<'_>,
-    texts: &mut Buffers,
+    session: &TeamSession<'_>,
+    buffers: &mut Buffers,
     lines: &mut K,
 ) -> Result<(), RepairFault>
     ensures run { (l : Legalizer) → IfOk result (λ _.
-        IsWrittenRun l seat.now.team.now floor.old (K.contents lines.old) (K.contents lines.new) floor.new) }
+        IsWrittenRun l session.now.team.now floor.old (K.contents lines.old) (K.contents lines.new) floor.new) }
     ensures err { (l : Legalizer) → OnErr result (
-        IsRunWithCutLine l seat.now.team.now floor.old (K.contents lines.old) (K.contents lines.new) floor.new) }
-    ensures only { ChangesOnly seat.now.team.now floor.old floor.new }
-    ensures cells { SameCells seat.now.team.now floor.old floor.new }
-    ensures settings { OnOk result (settings_in floor.new seat.now.team.now
-        ≡ settings_without seat.now.session floor.old seat.now.team.now) }
+        IsRunWithCutLine l session.now.team.now floor.old (K.contents lines.old) (K.contents lines.new) floor.new) }
+    ensures only { ChangesOnly session.now.team.now floor.old floor.new }
+    ensures cells { SameCells session.now.team.now floor.old floor.new }
+    ensures settings { OnOk result (settings_in floor.new session.now.team.now
+        ≡ settings_without session.now.session floor.old session.now.team.now) }
 {
     legalizer_exists();
     query_keeps_state();
-    match run_action(floor, seat, Action::Close, &mut texts.line, lines) {
+    match run_action(floor, session, Action::Close, &mut buffers.line, lines) {
         Ok(reply) => continue_unless_out_of_memory(&reply),
         Err(fault) => Err(fault),
     }

@@ -159,20 +159,20 @@ fn means_of(
 pub fn stats_of<S: Seeker + Drop>(
     floor: &Floor<S>,
     number: usize,
-    start: &RepairInput,
+    input: &RepairInput,
     found: RepairOutcome,
 ) -> RepairStats
     ensures changed { result.changed ≡ found.changed }
     ensures left { result.unrepaired ≡ found.left }
     ensures tally { (s : TeamState) → slice_get floor.now.teams number ≡ Some s
-        → AreStatsOfFirst start.now.pass.targets.items start.now.legal.items s.cells (length s.cells) result }
+        → AreStatsOfFirst input.now.pass.targets.items input.now.legal.items s.cells (length s.cells) result }
     ensures means { (s : TeamState) → slice_get floor.now.teams number ≡ Some s
-        → result.means ≡ means_of floor.now.frame s.cells (target_at start.now.pass.targets.items)
+        → result.means ≡ means_of floor.now.frame s.cells (target_at input.now.pass.targets.items)
         (working_at s.cells) }
 {
     let placement = floor.placement();
-    let targets = start.pass.targets.as_slice();
-    let mut stats = count_cells(placement, number, targets, start.legal.as_slice(), found);
+    let targets = input.pass.targets.as_slice();
+    let mut stats = count_cells(placement, number, targets, input.legal.as_slice(), found);
     stats.means = means_of(placement, number, targets, stats.total_displacement);
     stats
 }

@@ -36,72 +36,72 @@ use std::alloc::{AllocError, Global};
 /// Commits the team if no cell is unrepaired; otherwise sends no command.
 fn commit_if_clean<S: Seeker + Drop, K: Sink>(
     floor: &mut Floor<S>,
-    seat: &TeamSession<'_>,
-    left: &[u32],
-    texts: &mut Buffers,
+    session: &TeamSession<'_>,
+    unrepaired: &[u32],
+    buffers: &mut Buffers,
     lines: &mut K,
 ) -> Result<(), RepairFault>
     ensures run { (l : Legalizer) → IfOk result (λ _.
-        IsWrittenRun l seat.now.team.now floor.old (K.contents lines.old) (K.contents lines.new) floor.new) }
+        IsWrittenRun l session.now.team.now floor.old (K.contents lines.old) (K.contents lines.new) floor.new) }
     ensures err { (l : Legalizer) → OnErr result (
-        IsRunWithCutLine l seat.now.team.now floor.old (K.contents lines.old) (K.contents lines.new) floor.new) }
-    ensures only { ChangesOnly seat.now.team.now floor.old floor.new }
-    ensures places { KeepsPlaces seat.now.team.now floor.old floor.new }
-    ensures settings { KeepsOtherSettings seat.now.team.now seat.now.session floor.old floor.new }
-    ensures committed { (l : Legalizer) → left.now ≡ [] → IfOk result (λ _.
-        AllCommittedIn l floor.new seat.now.team.now) }
-    ensures kept { left.now ≢ [] → floor.new ≡ floor.old }
+        IsRunWithCutLine l session.now.team.now floor.old (K.contents lines.old) (K.contents lines.new) floor.new) }
+    ensures only { ChangesOnly session.now.team.now floor.old floor.new }
+    ensures places { KeepsPlaces session.now.team.now floor.old floor.new }
+    ensures settings { KeepsOtherSettings session.now.team.now session.now.session floor.old floor.new }
+    ensures committed { (l : Legalizer) → unrepaired.now ≡ [] → IfOk result (λ _.
+        AllCommittedIn l floor.new session.now.team.now) }
+    ensures kept { unrepaired.now ≢ [] → floor.new ≡ floor.old }
 {
     legalizer_exists();
-    if !left.is_empty() {
+    if !unrepaired.is_empty() {
         return Ok(());
     }
-    commit(floor, seat, texts, lines)
+    commit(floor, session, buffers, lines)
 }
 
 /// Lists the cells whose place changed, commits the team if no cell is unrepaired, and closes the
-/// session. `left` has the unrepaired cells.
+/// session. `unrepaired` has the unrepaired cells.
 fn finish<S: Seeker + Drop, K: Sink>(
     alloc: Global,
     floor: &mut Floor<S>,
-    seat: &TeamSession<'_>,
+    session: &TeamSession<'_>,
     targets: &[Option<Place>],
-    left: Vec<u32>,
+    unrepaired: Vec<u32>,
     lines: &mut K,
 ) -> Result<RepairOutcome, RepairFault>
-    requires number { team_number floor.old.frame seat.now.team.now ≡ Some seat.now.number }
+    requires number { team_number floor.old.frame session.now.team.now ≡ Some session.now.number }
     ensures run { (l : Legalizer) → IfOk result (λ _.
-        IsWrittenRun l seat.now.team.now floor.old (K.contents lines.old) (K.contents lines.new) floor.new) }
+        IsWrittenRun l session.now.team.now floor.old (K.contents lines.old) (K.contents lines.new) floor.new) }
     ensures err { (l : Legalizer) → OnErr result (
-        IsRunWithCutLine l seat.now.team.now floor.old (K.contents lines.old) (K.contents lines.new) floor.new) }
-    ensures only { ChangesOnly seat.now.team.now floor.old floor.new }
-    ensures places { KeepsPlaces seat.now.team.now floor.old floor.new }
+        IsRunWithCutLine l session.now.team.now floor.old (K.contents lines.old) (K.contents lines.new) floor.new) }
+    ensures only { ChangesOnly session.now.team.now floor.old floor.new }
+    ensures places { KeepsPlaces session.now.team.now floor.old floor.new }
     ensures changed { IfOk result (λ found.
-        TeamIsAtTargetsExcept seat.now.team.now targets.now floor.new found.changed.items) }
+        TeamIsAtTargetsExcept session.now.team.now targets.now floor.new found.changed.items) }
     ensures moved { IfOk result (λ found.
-        TeamHasLeftTargets seat.now.team.now targets.now floor.new found.changed.items) }
+        TeamHasLeftTargets session.now.team.now targets.now floor.new found.changed.items) }
     ensures unrepaired { (reach : Option ℤ)
-        → AreUnrepaired reach targets.now seat.now.team.now seat.now.impossible.now floor.old left.items
+        → AreUnrepaired reach targets.now session.now.team.now session.now.impossible.now floor.old unrepaired.items
         → IfOk result (λ found.
-        AreUnrepaired reach targets.now seat.now.team.now seat.now.impossible.now floor.new found.left.items) }
-    ensures left { IfOk result (λ found. found.left.items ≡ left.items) }
+        AreUnrepaired reach targets.now session.now.team.now session.now.impossible.now floor.new found.left.items) }
+    ensures unrepaired { IfOk result (λ found. found.left.items ≡ unrepaired.items) }
     ensures committed { (l : Legalizer) → IfOk result (λ found.
-        found.left.items ≡ [] → AllCommittedIn l floor.new seat.now.team.now) }
+        found.left.items ≡ [] → AllCommittedIn l floor.new session.now.team.now) }
     ensures uncommitted { IfOk result (λ found.
-        found.left.items ≢ [] → KeepsCommittedPlaces seat.now.team.now floor.old floor.new) }
-    ensures settings { OnOk result (settings_in floor.new seat.now.team.now
-        ≡ settings_without seat.now.session floor.old seat.now.team.now) }
+        found.left.items ≢ [] → KeepsCommittedPlaces session.now.team.now floor.old floor.new) }
+    ensures settings { OnOk result (settings_in floor.new session.now.team.now
+        ≡ settings_without session.now.session floor.old session.now.team.now) }
 {
     legalizer_exists();
-    let Ok(found) = found_of(alloc, floor, seat, targets, left) else {
+    let Ok(found) = found_of(alloc, floor, session, targets, unrepaired) else {
         return Err(RepairFault::OutOfMemory);
     };
-    let mut texts = Buffers::new(alloc);
-    match commit_if_clean(floor, seat, found.left.as_slice(), &mut texts, lines) {
+    let mut buffers = Buffers::new(alloc);
+    match commit_if_clean(floor, session, found.left.as_slice(), &mut buffers, lines) {
         Ok(()) => {}
         Err(fault) => return Err(fault),
     }
-    match close(floor, seat, &mut texts, lines) {
+    match close(floor, session, &mut buffers, lines) {
         Ok(()) => Ok(found),
         Err(fault) => Err(fault),
     }
@@ -125,8 +125,8 @@ fn cell_edits_in<S: Seeker + Drop>(
     search: &RepairSearch<'_>,
 ) -> Result<Vec<CellEdit>, AllocError> {
     let placement = floor.placement();
-    let owner = PaddedTeam::new(placement.frame(), number, floor.padding_of(number));
-    edits_for(alloc, placement, &owner, pass, phase, search)
+    let team = PaddedTeam::new(placement.frame(), number, floor.padding_of(number));
+    edits_for(alloc, placement, &team, pass, phase, search)
 }
 
 /// Runs all phases of a pass. The edits of each phase are computed from the floor after the
@@ -134,32 +134,33 @@ fn cell_edits_in<S: Seeker + Drop>(
 fn run_pass<S: Seeker + Drop, K: Sink>(
     alloc: Global,
     floor: &mut Floor<S>,
-    seat: &TeamSession<'_>,
+    session: &TeamSession<'_>,
     pass: &Pass,
     search: &RepairSearch<'_>,
-    texts: &mut Buffers,
+    buffers: &mut Buffers,
     lines: &mut K,
 ) -> Result<(), RepairFault>
     ensures run { (l : Legalizer) → IfOk result (λ _.
-        IsWrittenRun l seat.now.team.now floor.old (K.contents lines.old) (K.contents lines.new) floor.new) }
+        IsWrittenRun l session.now.team.now floor.old (K.contents lines.old) (K.contents lines.new) floor.new) }
     ensures err { (l : Legalizer) → OnErr result (
-        IsRunWithCutLine l seat.now.team.now floor.old (K.contents lines.old) (K.contents lines.new) floor.new) }
-    ensures only { ChangesOnly seat.now.team.now floor.old floor.new }
-    ensures marked { KeepsLockedPlaces seat.now.team.now pass.now.locked.items floor.old floor.new }
-    ensures flagged { KeepsLockedPlaces seat.now.team.now seat.now.impossible.now floor.old floor.new }
-    ensures legal { KeepsLockedLegal seat.now.team.now pass.now.locked.items floor.old floor.new }
-    ensures committed { KeepsCommittedAndSettings seat.now.team.now seat.now.session floor.old floor.new }
+        IsRunWithCutLine l session.now.team.now floor.old (K.contents lines.old) (K.contents lines.new) floor.new) }
+    ensures only { ChangesOnly session.now.team.now floor.old floor.new }
+    ensures marked { KeepsLockedPlaces session.now.team.now pass.now.locked.items floor.old floor.new }
+    ensures flagged { KeepsLockedPlaces session.now.team.now session.now.impossible.now floor.old floor.new }
+    ensures legal { KeepsLockedLegal session.now.team.now pass.now.locked.items floor.old floor.new }
+    ensures committed { KeepsCommittedAndSettings session.now.team.now session.now.session floor.old floor.new }
 {
     for phase in &PHASES {
-        let Ok(cell_edits) = cell_edits_in(alloc, floor, seat.number, pass, *phase, search) else {
+        let Ok(cell_edits) = cell_edits_in(alloc, floor, session.number, pass, *phase, search)
+        else {
             return Err(RepairFault::OutOfMemory);
         };
         match run_edits(
             floor,
-            seat,
+            session,
             pass.locked.as_slice(),
             cell_edits.as_slice(),
-            texts,
+            buffers,
             lines,
         ) {
             Ok(()) => {}
@@ -188,25 +189,25 @@ fn local_plan_in<S: Seeker + Drop>(
     alloc: Global,
     floor: &Floor<S>,
     number: usize,
-    start: &RepairInput,
+    input: &RepairInput,
     reach: &Neighborhood,
     search: &RepairSearch<'_>,
 ) -> Result<Option<LocalPass>, AllocError> {
     let placement = floor.placement();
     if matches!(reach, Neighborhood::Windows) {
-        let owner = PaddedTeam::new(placement.frame(), number, floor.padding_of(number));
-        return plan_window_pass(alloc, placement, &owner, start, search);
+        let team = PaddedTeam::new(placement.frame(), number, floor.padding_of(number));
+        return plan_window_pass(alloc, placement, &team, input, search);
     }
-    plan_local_pass(alloc, placement, number, start, reach, search)
+    plan_local_pass(alloc, placement, number, input, reach, search)
 }
 
 /// Whether one of these cells was legal at the start of the repair, and so was locked in its first
 /// pass.
-fn has_locked(start: &RepairInput, cells: &[u32]) -> bool
-    ensures { result ≡ false → NoneIsFlagged start.now.pass.locked.items cells.now }
+fn has_locked(input: &RepairInput, cells: &[u32]) -> bool
+    ensures { result ≡ false → NoneIsFlagged input.now.pass.locked.items cells.now }
 {
     for own in cells {
-        if is_locked(start.pass.locked.as_slice(), *own as usize) {
+        if is_locked(input.pass.locked.as_slice(), *own as usize) {
             return true;
         }
     }
@@ -218,62 +219,62 @@ fn has_locked(start: &RepairInput, cells: &[u32]) -> bool
 fn settle<S: Seeker + Drop, K: Sink>(
     alloc: Global,
     floor: &mut Floor<S>,
-    seat: &TeamSession<'_>,
+    session: &TeamSession<'_>,
     targets: &[Option<Place>],
     search: &RepairSearch<'_>,
-    texts: &mut Buffers,
+    buffers: &mut Buffers,
     lines: &mut K,
 ) -> Result<Vec<u32>, RepairFault>
-    requires { team_number floor.old.frame seat.now.team.now ≡ Some seat.now.number }
+    requires { team_number floor.old.frame session.now.team.now ≡ Some session.now.number }
     ensures run { (l : Legalizer) → IfOk result (λ _.
-        IsWrittenRun l seat.now.team.now floor.old (K.contents lines.old) (K.contents lines.new) floor.new) }
+        IsWrittenRun l session.now.team.now floor.old (K.contents lines.old) (K.contents lines.new) floor.new) }
     ensures err { (l : Legalizer) → OnErr result (
-        IsRunWithCutLine l seat.now.team.now floor.old (K.contents lines.old) (K.contents lines.new) floor.new) }
-    ensures only { ChangesOnly seat.now.team.now floor.old floor.new }
-    ensures committed { KeepsCommittedAndSettings seat.now.team.now seat.now.session floor.old floor.new }
-    ensures legal { KeepsLegalAtTargets seat.now.team.now targets.now floor.old floor.new }
-    ensures unmoved { AreFlaggedAtTargets seat.now.team.now seat.now.impossible.now targets.now floor.old
-        → KeepsLockedPlaces seat.now.team.now seat.now.impossible.now floor.old floor.new }
+        IsRunWithCutLine l session.now.team.now floor.old (K.contents lines.old) (K.contents lines.new) floor.new) }
+    ensures only { ChangesOnly session.now.team.now floor.old floor.new }
+    ensures committed { KeepsCommittedAndSettings session.now.team.now session.now.session floor.old floor.new }
+    ensures legal { KeepsLegalAtTargets session.now.team.now targets.now floor.old floor.new }
+    ensures unmoved { AreFlaggedAtTargets session.now.team.now session.now.impossible.now targets.now floor.old
+        → KeepsLockedPlaces session.now.team.now session.now.impossible.now floor.old floor.new }
     ensures settled { IfOk result (λ left.
-        IsSettled search.now.reach targets.now seat.now.team.now seat.now.impossible.now floor.new left.items) }
+        IsSettled search.now.reach targets.now session.now.team.now session.now.impossible.now floor.new left.items) }
 {
-    match run_misplaced_pass(floor, seat, targets, search, texts, lines) {
+    match run_misplaced_pass(floor, session, targets, search, buffers, lines) {
         Ok(()) => {}
         Err(fault) => return Err(fault),
     }
-    run_last_pass(alloc, floor, seat, targets, search, texts, lines)
+    run_last_pass(alloc, floor, session, targets, search, buffers, lines)
 }
 
 /// Runs a pass and ends it. Returns the positions of the unrepaired cells, in loading order.
 fn run_settled_pass<S: Seeker + Drop, K: Sink>(
     alloc: Global,
     floor: &mut Floor<S>,
-    seat: &TeamSession<'_>,
+    session: &TeamSession<'_>,
     pass: &Pass,
     targets: &[Option<Place>],
     search: &RepairSearch<'_>,
-    texts: &mut Buffers,
+    buffers: &mut Buffers,
     lines: &mut K,
 ) -> Result<Vec<u32>, RepairFault>
-    requires { team_number floor.old.frame seat.now.team.now ≡ Some seat.now.number }
+    requires { team_number floor.old.frame session.now.team.now ≡ Some session.now.number }
     ensures run { (l : Legalizer) → IfOk result (λ _.
-        IsWrittenRun l seat.now.team.now floor.old (K.contents lines.old) (K.contents lines.new) floor.new) }
+        IsWrittenRun l session.now.team.now floor.old (K.contents lines.old) (K.contents lines.new) floor.new) }
     ensures err { (l : Legalizer) → OnErr result (
-        IsRunWithCutLine l seat.now.team.now floor.old (K.contents lines.old) (K.contents lines.new) floor.new) }
-    ensures only { ChangesOnly seat.now.team.now floor.old floor.new }
-    ensures committed { KeepsCommittedAndSettings seat.now.team.now seat.now.session floor.old floor.new }
-    ensures marked { AreLockedInPlace seat.now.team.now pass.now.locked.items targets.now floor.old
-        → AreLockedInPlace seat.now.team.now pass.now.locked.items targets.now floor.new }
-    ensures unmoved { AreFlaggedAtTargets seat.now.team.now seat.now.impossible.now targets.now floor.old
-        → KeepsLockedPlaces seat.now.team.now seat.now.impossible.now floor.old floor.new }
+        IsRunWithCutLine l session.now.team.now floor.old (K.contents lines.old) (K.contents lines.new) floor.new) }
+    ensures only { ChangesOnly session.now.team.now floor.old floor.new }
+    ensures committed { KeepsCommittedAndSettings session.now.team.now session.now.session floor.old floor.new }
+    ensures marked { AreLockedInPlace session.now.team.now pass.now.locked.items targets.now floor.old
+        → AreLockedInPlace session.now.team.now pass.now.locked.items targets.now floor.new }
+    ensures unmoved { AreFlaggedAtTargets session.now.team.now session.now.impossible.now targets.now floor.old
+        → KeepsLockedPlaces session.now.team.now session.now.impossible.now floor.old floor.new }
     ensures settled { IfOk result (λ left.
-        IsSettled search.now.reach targets.now seat.now.team.now seat.now.impossible.now floor.new left.items) }
+        IsSettled search.now.reach targets.now session.now.team.now session.now.impossible.now floor.new left.items) }
 {
-    match run_pass(alloc, floor, seat, pass, search, texts, lines) {
+    match run_pass(alloc, floor, session, pass, search, buffers, lines) {
         Ok(()) => {}
         Err(fault) => return Err(fault),
     }
-    settle(alloc, floor, seat, targets, search, texts, lines)
+    settle(alloc, floor, session, targets, search, buffers, lines)
 }
 
 /// Takes a local pass back: each cell goes where it was at the start of the pass. Returns the positions
@@ -282,44 +283,44 @@ fn run_settled_pass<S: Seeker + Drop, K: Sink>(
 fn take_back<S: Seeker + Drop, K: Sink>(
     alloc: Global,
     floor: &mut Floor<S>,
-    seat: &TeamSession<'_>,
-    start: &RepairInput,
+    session: &TeamSession<'_>,
+    input: &RepairInput,
     local_plan: &LocalPass,
     search: &RepairSearch<'_>,
-    texts: &mut Buffers,
+    buffers: &mut Buffers,
     lines: &mut K,
 ) -> Result<Vec<u32>, RepairFault>
-    requires { team_number floor.old.frame seat.now.team.now ≡ Some seat.now.number }
+    requires { team_number floor.old.frame session.now.team.now ≡ Some session.now.number }
     ensures run { (l : Legalizer) → IfOk result (λ _.
-        IsWrittenRun l seat.now.team.now floor.old (K.contents lines.old) (K.contents lines.new) floor.new) }
+        IsWrittenRun l session.now.team.now floor.old (K.contents lines.old) (K.contents lines.new) floor.new) }
     ensures err { (l : Legalizer) → OnErr result (
-        IsRunWithCutLine l seat.now.team.now floor.old (K.contents lines.old) (K.contents lines.new) floor.new) }
-    ensures only { ChangesOnly seat.now.team.now floor.old floor.new }
-    ensures committed { KeepsCommittedAndSettings seat.now.team.now seat.now.session floor.old floor.new }
-    ensures unmoved { AreFlaggedAtTargets seat.now.team.now seat.now.impossible.now start.now.pass.targets.items
+        IsRunWithCutLine l session.now.team.now floor.old (K.contents lines.old) (K.contents lines.new) floor.new) }
+    ensures only { ChangesOnly session.now.team.now floor.old floor.new }
+    ensures committed { KeepsCommittedAndSettings session.now.team.now session.now.session floor.old floor.new }
+    ensures unmoved { AreFlaggedAtTargets session.now.team.now session.now.impossible.now input.now.pass.targets.items
         floor.old
-        → KeepsLockedPlaces seat.now.team.now seat.now.impossible.now floor.old floor.new }
-    ensures settled { IfOk result (λ left.
-        IsSettled search.now.reach start.now.pass.targets.items seat.now.team.now seat.now.impossible.now floor.new
-        left.items) }
-    ensures free { IfOk result (λ left. NoneIsFlagged start.now.pass.locked.items left.items) }
+        → KeepsLockedPlaces session.now.team.now session.now.impossible.now floor.old floor.new }
+    ensures settled { IfOk result (λ unrepaired.
+        IsSettled search.now.reach input.now.pass.targets.items session.now.team.now session.now.impossible.now floor.new
+        unrepaired.items) }
+    ensures free { IfOk result (λ unrepaired. NoneIsFlagged input.now.pass.locked.items unrepaired.items) }
 {
-    let Ok(back) = edits_back(alloc, floor.placement(), seat.number, local_plan) else {
+    let Ok(back) = edits_back(alloc, floor.placement(), session.number, local_plan) else {
         return Err(RepairFault::OutOfMemory);
     };
-    match run_edits(floor, seat, &[], back.as_slice(), texts, lines) {
+    match run_edits(floor, session, &[], back.as_slice(), buffers, lines) {
         Ok(()) => {}
         Err(fault) => return Err(fault),
     }
-    let targets = start.pass.targets.as_slice();
-    let left = match settle(alloc, floor, seat, targets, search, texts, lines) {
-        Ok(left) => left,
+    let targets = input.pass.targets.as_slice();
+    let unrepaired = match settle(alloc, floor, session, targets, search, buffers, lines) {
+        Ok(unrepaired) => unrepaired,
         Err(fault) => return Err(fault),
     };
-    if has_locked(start, left.as_slice()) {
+    if has_locked(input, unrepaired.as_slice()) {
         return Err(RepairFault::Refused(Refusal::NoCell));
     }
-    Ok(left)
+    Ok(unrepaired)
 }
 
 /// Whether a local pass is kept: it has improved something, and none of the unrepaired cells after it
@@ -328,64 +329,64 @@ fn is_kept<S: Seeker + Drop>(
     alloc: Global,
     floor: &Floor<S>,
     number: usize,
-    start: &RepairInput,
+    input: &RepairInput,
     local_plan: &LocalPass,
     search: &RepairSearch<'_>,
-    left: &[u32],
+    unrepaired: &[u32],
 ) -> Result<bool, AllocError>
-    ensures { IfOk result (λ kept. IsTrue kept → NoneIsFlagged start.now.pass.locked.items left.now) }
+    ensures { IfOk result (λ kept. IsTrue kept → NoneIsFlagged input.now.pass.locked.items unrepaired.now) }
 {
-    if has_locked(start, left) {
+    if has_locked(input, unrepaired) {
         return Ok(false);
     }
-    has_improved(alloc, floor.placement(), number, start, local_plan, search)
+    has_improved(alloc, floor.placement(), number, input, local_plan, search)
 }
 
 /// Runs a local pass, in which legal cells may move too: its cells are unplaced and planned again. It
-/// is taken back if it has improved nothing, or left a cell that was legal. `left` has the unrepaired
+/// is taken back if it has improved nothing, or left a cell that was legal. `unrepaired` has the unrepaired
 /// cells before the pass. Returns those after it.
 fn run_local_pass<S: Seeker + Drop, K: Sink>(
     alloc: Global,
     floor: &mut Floor<S>,
-    seat: &TeamSession<'_>,
-    start: &RepairInput,
+    session: &TeamSession<'_>,
+    input: &RepairInput,
     reach: &Neighborhood,
     search: &RepairSearch<'_>,
-    left: Vec<u32>,
+    unrepaired: Vec<u32>,
     lines: &mut K,
 ) -> Result<Vec<u32>, RepairFault>
-    requires number { team_number floor.old.frame seat.now.team.now ≡ Some seat.now.number }
-    requires settled { IsSettled search.now.reach start.now.pass.targets.items seat.now.team.now seat.now.impossible.now
-        floor.old left.items }
+    requires number { team_number floor.old.frame session.now.team.now ≡ Some session.now.number }
+    requires settled { IsSettled search.now.reach input.now.pass.targets.items session.now.team.now session.now.impossible.now
+        floor.old unrepaired.items }
     ensures run { (l : Legalizer) → IfOk result (λ _.
-        IsWrittenRun l seat.now.team.now floor.old (K.contents lines.old) (K.contents lines.new) floor.new) }
+        IsWrittenRun l session.now.team.now floor.old (K.contents lines.old) (K.contents lines.new) floor.new) }
     ensures err { (l : Legalizer) → OnErr result (
-        IsRunWithCutLine l seat.now.team.now floor.old (K.contents lines.old) (K.contents lines.new) floor.new) }
-    ensures only { ChangesOnly seat.now.team.now floor.old floor.new }
-    ensures committed { KeepsCommittedAndSettings seat.now.team.now seat.now.session floor.old floor.new }
-    ensures unmoved { AreFlaggedAtTargets seat.now.team.now seat.now.impossible.now start.now.pass.targets.items
+        IsRunWithCutLine l session.now.team.now floor.old (K.contents lines.old) (K.contents lines.new) floor.new) }
+    ensures only { ChangesOnly session.now.team.now floor.old floor.new }
+    ensures committed { KeepsCommittedAndSettings session.now.team.now session.now.session floor.old floor.new }
+    ensures unmoved { AreFlaggedAtTargets session.now.team.now session.now.impossible.now input.now.pass.targets.items
         floor.old
-        → KeepsLockedPlaces seat.now.team.now seat.now.impossible.now floor.old floor.new }
+        → KeepsLockedPlaces session.now.team.now session.now.impossible.now floor.old floor.new }
     ensures settled { IfOk result (λ later.
-        IsSettled search.now.reach start.now.pass.targets.items seat.now.team.now seat.now.impossible.now floor.new
+        IsSettled search.now.reach input.now.pass.targets.items session.now.team.now session.now.impossible.now floor.new
         later.items) }
-    ensures free { NoneIsFlagged start.now.pass.locked.items left.items
-        → IfOk result (λ later. NoneIsFlagged start.now.pass.locked.items later.items) }
+    ensures free { NoneIsFlagged input.now.pass.locked.items unrepaired.items
+        → IfOk result (λ later. NoneIsFlagged input.now.pass.locked.items later.items) }
 {
-    let local_plan = match local_plan_in(alloc, floor, seat.number, start, reach, search) {
+    let local_plan = match local_plan_in(alloc, floor, session.number, input, reach, search) {
         Ok(Some(local_plan)) => local_plan,
-        Ok(None) => return Ok(left),
+        Ok(None) => return Ok(unrepaired),
         Err(_) => return Err(RepairFault::OutOfMemory),
     };
-    let mut texts = Buffers::new(alloc);
+    let mut buffers = Buffers::new(alloc);
     let later = match run_settled_pass(
         alloc,
         floor,
-        seat,
+        session,
         &local_plan.pass,
-        start.pass.targets.as_slice(),
+        input.pass.targets.as_slice(),
         search,
-        &mut texts,
+        &mut buffers,
         lines,
     ) {
         Ok(later) => later,
@@ -394,8 +395,8 @@ fn run_local_pass<S: Seeker + Drop, K: Sink>(
     match is_kept(
         alloc,
         floor,
-        seat.number,
-        start,
+        session.number,
+        input,
         &local_plan,
         search,
         later.as_slice(),
@@ -404,11 +405,11 @@ fn run_local_pass<S: Seeker + Drop, K: Sink>(
         Ok(false) => take_back(
             alloc,
             floor,
-            seat,
-            start,
+            session,
+            input,
             &local_plan,
             search,
-            &mut texts,
+            &mut buffers,
             lines,
         ),
         Err(_) => Err(RepairFault::OutOfMemory),
@@ -416,46 +417,46 @@ fn run_local_pass<S: Seeker + Drop, K: Sink>(
 }
 
 /// Whether legal cells may move.
-fn may_legal_move(how: MovePolicy) -> bool
-    ensures { how ≡ KeepLegal → result ≡ false }
+fn may_legal_move(policy: MovePolicy) -> bool
+    ensures { policy ≡ KeepLegal → result ≡ false }
 {
-    match how {
+    match policy {
         MovePolicy::KeepLegal => false,
         _ => true,
     }
 }
 
-/// Runs the local passes. `left` has the unrepaired cells before them. Returns those after them.
+/// Runs the local passes. `unrepaired` has the unrepaired cells before them. Returns those after them.
 fn run_local_passes<S: Seeker + Drop, K: Sink>(
     alloc: Global,
     floor: &mut Floor<S>,
-    seat: &TeamSession<'_>,
-    start: &RepairInput,
+    session: &TeamSession<'_>,
+    input: &RepairInput,
     search: &RepairSearch<'_>,
-    left: Vec<u32>,
+    unrepaired: Vec<u32>,
     lines: &mut K,
 ) -> Result<Vec<u32>, RepairFault>
-    requires number { team_number floor.old.frame seat.now.team.now ≡ Some seat.now.number }
-    requires settled { IsSettled search.now.reach start.now.pass.targets.items seat.now.team.now seat.now.impossible.now
-        floor.old left.items }
+    requires number { team_number floor.old.frame session.now.team.now ≡ Some session.now.number }
+    requires settled { IsSettled search.now.reach input.now.pass.targets.items session.now.team.now session.now.impossible.now
+        floor.old unrepaired.items }
     ensures run { (l : Legalizer) → IfOk result (λ _.
-        IsWrittenRun l seat.now.team.now floor.old (K.contents lines.old) (K.contents lines.new) floor.new) }
+        IsWrittenRun l session.now.team.now floor.old (K.contents lines.old) (K.contents lines.new) floor.new) }
     ensures err { (l : Legalizer) → OnErr result (
-        IsRunWithCutLine l seat.now.team.now floor.old (K.contents lines.old) (K.contents lines.new) floor.new) }
-    ensures only { ChangesOnly seat.now.team.now floor.old floor.new }
-    ensures committed { KeepsCommittedAndSettings seat.now.team.now seat.now.session floor.old floor.new }
-    ensures unmoved { AreFlaggedAtTargets seat.now.team.now seat.now.impossible.now start.now.pass.targets.items
+        IsRunWithCutLine l session.now.team.now floor.old (K.contents lines.old) (K.contents lines.new) floor.new) }
+    ensures only { ChangesOnly session.now.team.now floor.old floor.new }
+    ensures committed { KeepsCommittedAndSettings session.now.team.now session.now.session floor.old floor.new }
+    ensures unmoved { AreFlaggedAtTargets session.now.team.now session.now.impossible.now input.now.pass.targets.items
         floor.old
-        → KeepsLockedPlaces seat.now.team.now seat.now.impossible.now floor.old floor.new }
+        → KeepsLockedPlaces session.now.team.now session.now.impossible.now floor.old floor.new }
     ensures settled { IfOk result (λ later.
-        IsSettled search.now.reach start.now.pass.targets.items seat.now.team.now seat.now.impossible.now floor.new
+        IsSettled search.now.reach input.now.pass.targets.items session.now.team.now session.now.impossible.now floor.new
         later.items) }
-    ensures free { NoneIsFlagged start.now.pass.locked.items left.items
-        → IfOk result (λ later. NoneIsFlagged start.now.pass.locked.items later.items) }
+    ensures free { NoneIsFlagged input.now.pass.locked.items unrepaired.items
+        → IfOk result (λ later. NoneIsFlagged input.now.pass.locked.items later.items) }
 {
-    let mut later = left;
+    let mut later = unrepaired;
     for reach in &REACHES {
-        later = match run_local_pass(alloc, floor, seat, start, reach, search, later, lines) {
+        later = match run_local_pass(alloc, floor, session, input, reach, search, later, lines) {
             Ok(later) => later,
             Err(fault) => return Err(fault),
         };
@@ -467,48 +468,48 @@ fn run_local_passes<S: Seeker + Drop, K: Sink>(
 fn run_passes<S: Seeker + Drop, K: Sink>(
     alloc: Global,
     floor: &mut Floor<S>,
-    seat: &TeamSession<'_>,
-    start: &RepairInput,
+    session: &TeamSession<'_>,
+    input: &RepairInput,
     search: &RepairSearch<'_>,
     lines: &mut K,
 ) -> Result<Vec<u32>, RepairFault>
-    requires { team_number floor.old.frame seat.now.team.now ≡ Some seat.now.number }
+    requires { team_number floor.old.frame session.now.team.now ≡ Some session.now.number }
     ensures run { (l : Legalizer) → IfOk result (λ _.
-        IsWrittenRun l seat.now.team.now floor.old (K.contents lines.old) (K.contents lines.new) floor.new) }
+        IsWrittenRun l session.now.team.now floor.old (K.contents lines.old) (K.contents lines.new) floor.new) }
     ensures err { (l : Legalizer) → OnErr result (
-        IsRunWithCutLine l seat.now.team.now floor.old (K.contents lines.old) (K.contents lines.new) floor.new) }
-    ensures only { ChangesOnly seat.now.team.now floor.old floor.new }
-    ensures committed { KeepsCommittedAndSettings seat.now.team.now seat.now.session floor.old floor.new }
-    ensures marked { start.now.how ≡ KeepLegal
-        → AreLockedInPlace seat.now.team.now start.now.pass.locked.items start.now.pass.targets.items floor.old
-        → KeepsLockedPlaces seat.now.team.now start.now.pass.locked.items floor.old floor.new }
-    ensures unmoved { AreFlaggedAtTargets seat.now.team.now seat.now.impossible.now start.now.pass.targets.items
+        IsRunWithCutLine l session.now.team.now floor.old (K.contents lines.old) (K.contents lines.new) floor.new) }
+    ensures only { ChangesOnly session.now.team.now floor.old floor.new }
+    ensures committed { KeepsCommittedAndSettings session.now.team.now session.now.session floor.old floor.new }
+    ensures marked { input.now.how ≡ KeepLegal
+        → AreLockedInPlace session.now.team.now input.now.pass.locked.items input.now.pass.targets.items floor.old
+        → KeepsLockedPlaces session.now.team.now input.now.pass.locked.items floor.old floor.new }
+    ensures unmoved { AreFlaggedAtTargets session.now.team.now session.now.impossible.now input.now.pass.targets.items
         floor.old
-        → KeepsLockedPlaces seat.now.team.now seat.now.impossible.now floor.old floor.new }
-    ensures settled { IfOk result (λ left.
-        IsSettled search.now.reach start.now.pass.targets.items seat.now.team.now seat.now.impossible.now floor.new
-        left.items) }
-    ensures free { AreLockedInPlace seat.now.team.now start.now.pass.locked.items start.now.pass.targets.items floor.old
-        → IfOk result (λ left. NoneIsFlagged start.now.pass.locked.items left.items) }
+        → KeepsLockedPlaces session.now.team.now session.now.impossible.now floor.old floor.new }
+    ensures settled { IfOk result (λ unrepaired.
+        IsSettled search.now.reach input.now.pass.targets.items session.now.team.now session.now.impossible.now floor.new
+        unrepaired.items) }
+    ensures free { AreLockedInPlace session.now.team.now input.now.pass.locked.items input.now.pass.targets.items floor.old
+        → IfOk result (λ unrepaired. NoneIsFlagged input.now.pass.locked.items unrepaired.items) }
 {
-    let mut texts = Buffers::new(alloc);
-    let left = match run_settled_pass(
+    let mut buffers = Buffers::new(alloc);
+    let unrepaired = match run_settled_pass(
         alloc,
         floor,
-        seat,
-        &start.pass,
-        start.pass.targets.as_slice(),
+        session,
+        &input.pass,
+        input.pass.targets.as_slice(),
         search,
-        &mut texts,
+        &mut buffers,
         lines,
     ) {
-        Ok(left) => left,
+        Ok(unrepaired) => unrepaired,
         Err(fault) => return Err(fault),
     };
-    if !may_legal_move(start.how) {
-        return Ok(left);
+    if !may_legal_move(input.how) {
+        return Ok(unrepaired);
     }
-    run_local_passes(alloc, floor, seat, start, search, left, lines)
+    run_local_passes(alloc, floor, session, input, search, unrepaired, lines)
 }
 
 /// Opens a session, runs all passes, and finishes.
@@ -517,7 +518,7 @@ fn repair_in_session<'a, S: Seeker + Drop, K: Sink>(
     floor: &mut Floor<S>,
     team: &'a [u8],
     number: usize,
-    start: &'a RepairInput,
+    input: &'a RepairInput,
     search: &RepairSearch<'_>,
     lines: &mut K,
 ) -> Result<RepairOutcome, RepairFault>
@@ -527,32 +528,32 @@ fn repair_in_session<'a, S: Seeker + Drop, K: Sink>(
     ensures err { (l : Legalizer) → OnErr result (
         IsRunWithCutLine l team.now floor.old (K.contents lines.old) (K.contents lines.new) floor.new) }
     ensures only { ChangesOnly team.now floor.old floor.new }
-    ensures marked { start.now.how ≡ KeepLegal
-        → AreLockedInPlace team.now start.now.pass.locked.items start.now.pass.targets.items floor.old
-        → KeepsLockedPlaces team.now start.now.pass.locked.items floor.old floor.new }
-    ensures unmoved { AreFlaggedAtTargets team.now start.now.pass.impossible.items start.now.pass.targets.items
+    ensures marked { input.now.how ≡ KeepLegal
+        → AreLockedInPlace team.now input.now.pass.locked.items input.now.pass.targets.items floor.old
+        → KeepsLockedPlaces team.now input.now.pass.locked.items floor.old floor.new }
+    ensures unmoved { AreFlaggedAtTargets team.now input.now.pass.impossible.items input.now.pass.targets.items
         floor.old
-        → KeepsLockedPlaces team.now start.now.pass.impossible.items floor.old floor.new }
+        → KeepsLockedPlaces team.now input.now.pass.impossible.items floor.old floor.new }
     ensures changed { IfOk result (λ found.
-        TeamIsAtTargetsExcept team.now start.now.pass.targets.items floor.new found.changed.items) }
+        TeamIsAtTargetsExcept team.now input.now.pass.targets.items floor.new found.changed.items) }
     ensures moved { IfOk result (λ found.
-        TeamHasLeftTargets team.now start.now.pass.targets.items floor.new found.changed.items) }
+        TeamHasLeftTargets team.now input.now.pass.targets.items floor.new found.changed.items) }
     ensures unrepaired { IfOk result (λ found.
-        AreUnrepaired search.now.reach start.now.pass.targets.items team.now start.now.pass.impossible.items floor.new
+        AreUnrepaired search.now.reach input.now.pass.targets.items team.now input.now.pass.impossible.items floor.new
         found.left.items) }
-    ensures within { OnOk result (AreWithin search.now.reach start.now.pass.targets.items team.now floor.new) }
+    ensures within { OnOk result (AreWithin search.now.reach input.now.pass.targets.items team.now floor.new) }
     ensures committed { (l : Legalizer) → IfOk result (λ found.
         found.left.items ≡ [] → AllCommittedIn l floor.new team.now) }
     ensures uncommitted { IfOk result (λ found.
         found.left.items ≢ [] → KeepsCommittedPlaces team.now floor.old floor.new) }
     ensures settings { OnOk result (settings_in floor.new team.now ≡ settings_in floor.old team.now) }
     ensures off_soft { OnOk result (
-        AreAtTargetsOrOffSoft team.now start.now.pass.targets.items floor.new) }
-    ensures free { AreLockedInPlace team.now start.now.pass.locked.items start.now.pass.targets.items floor.old
-        → IfOk result (λ found. NoneIsFlagged start.now.pass.locked.items found.left.items) }
+        AreAtTargetsOrOffSoft team.now input.now.pass.targets.items floor.new) }
+    ensures free { AreLockedInPlace team.now input.now.pass.locked.items input.now.pass.targets.items floor.old
+        → IfOk result (λ found. NoneIsFlagged input.now.pass.locked.items found.left.items) }
 {
-    let mut texts = Buffers::new(alloc);
-    let session = match open(floor, team, &mut texts, lines) {
+    let mut buffers = Buffers::new(alloc);
+    let session = match open(floor, team, &mut buffers, lines) {
         Ok(session) => session,
         Err(fault) => return Err(fault),
     };
@@ -560,14 +561,14 @@ fn repair_in_session<'a, S: Seeker + Drop, K: Sink>(
         team,
         number,
         session,
-        impossible: start.pass.impossible.as_slice(),
+        impossible: input.pass.impossible.as_slice(),
     };
-    let left = match run_passes(alloc, floor, &seat, start, search, lines) {
-        Ok(left) => left,
+    let unrepaired = match run_passes(alloc, floor, &seat, input, search, lines) {
+        Ok(unrepaired) => unrepaired,
         Err(fault) => return Err(fault),
     };
-    let targets = start.pass.targets.as_slice();
-    finish(alloc, floor, &seat, targets, left, lines)
+    let targets = input.pass.targets.as_slice();
+    finish(alloc, floor, &seat, targets, unrepaired, lines)
 }
 
 /// Repairs a team: moves its cells that break a rule or have no place to legal places.
@@ -600,7 +601,7 @@ pub fn repair_team<S: Seeker + Drop, K: Sink>(
     alloc: Global,
     floor: &mut Floor<S>,
     team: &[u8],
-    how: MovePolicy,
+    policy: MovePolicy,
     search: &RepairSearch<'_>,
     impossible: &[ImpossibleMacro],
     lines: &mut K,
@@ -611,7 +612,7 @@ pub fn repair_team<S: Seeker + Drop, K: Sink>(
         IsRunWithCutLine l team.now floor.old (K.contents lines.old) (K.contents lines.new) floor.new) }
     ensures only { ChangesOnly team.now floor.old floor.new }
     ensures unknown { team_number floor.old.frame team.now ≡ None → result ≡ Err RepairFault.NoTeam }
-    ensures kept { how ≡ KeepLegal → KeepsLegalPlaces team.now floor.old floor.new }
+    ensures kept { policy ≡ KeepLegal → KeepsLegalPlaces team.now floor.old floor.new }
     ensures unmoved { KeepsListedPlaces impossible.now team.now floor.old floor.new }
     ensures changed { IfOk result (λ repaired. OnlyListedMove team.now floor.old floor.new repaired.changed.items) }
     ensures moved { IfOk result (λ repaired. AllListedMove team.now floor.old floor.new repaired.changed.items) }
@@ -637,11 +638,11 @@ pub fn repair_team<S: Seeker + Drop, K: Sink>(
     let Some(number) = floor.team_number(team) else {
         return Err(RepairFault::NoTeam);
     };
-    let Ok(start) = team_input(alloc, floor, team, number, how, impossible) else {
+    let Ok(input) = team_input(alloc, floor, team, number, policy, impossible) else {
         return Err(RepairFault::OutOfMemory);
     };
-    match repair_in_session(alloc, floor, team, number, &start, search, lines) {
-        Ok(found) => Ok(stats_of(floor, number, &start, found)),
+    match repair_in_session(alloc, floor, team, number, &input, search, lines) {
+        Ok(found) => Ok(stats_of(floor, number, &input, found)),
         Err(fault) => Err(fault),
     }
 }

@@ -86,20 +86,20 @@ struct OtherBoxes<'a> {
 /// Returns the first rule that the cell with this number breaks at its place, given the other
 /// placed cells. `None` if it breaks no rule or is unplaced.
 fn broken_in(
-    plan: &IndexedFrame<'_>,
+    frame: &IndexedFrame<'_>,
     near: &OtherBoxes<'_>,
     cells: &[Listed<&[u8]>],
     own: usize,
     cell: &Listed<&[u8]>,
 ) -> Option<Broken>
-    requires boxes { AreListedBoxes plan.now cells.now near.now.boxes.now }
-    requires cell { IsCellAt plan.now cells.now own cell.now }
+    requires boxes { AreListedBoxes frame.now cells.now near.now.boxes.now }
+    requires cell { IsCellAt frame.now cells.now own cell.now }
     ensures { (l : Legalizer) → result
-        ≡ broken_among l plan.now near.now.padding.sites (map with_byte_name cells.now) own (with_byte_name cell.now) }
+        ≡ broken_among l frame.now near.now.padding.sites (map with_byte_name cells.now) own (with_byte_name cell.now) }
 {
     verdict_is_unique();
     let place = cell.place?;
-    broken_at(plan, near.boxes, own as u32, cell, &place, near.padding)
+    broken_at(frame, near.boxes, own as u32, cell, &place, near.padding)
 }
 
 /// Returns a copy of the name of the cell with this number. `None` if there is no such cell. `Err`
@@ -171,23 +171,23 @@ fn put(verdicts: &mut Vec<Option<Broken>>, own: usize, verdict: Option<Broken>)
 
 /// Sets the verdict of the cell with this number.
 fn put_verdict(
-    plan: &IndexedFrame<'_>,
+    frame: &IndexedFrame<'_>,
     near: &OtherBoxes<'_>,
     cells: &[Listed<&[u8]>],
     own: usize,
     cell: &Listed<&[u8]>,
     verdicts: &mut Vec<Option<Broken>>,
 )
-    requires boxes { AreListedBoxes plan.now cells.now near.now.boxes.now }
-    requires cell { IsCellAt plan.now cells.now own cell.now }
+    requires boxes { AreListedBoxes frame.now cells.now near.now.boxes.now }
+    requires cell { IsCellAt frame.now cells.now own cell.now }
     requires count { length verdicts.old.items ≡ length cells.now }
     ensures count { length verdicts.new.items ≡ length cells.now }
     ensures put { (l : Legalizer)
-        → AreSomeVerdicts l plan.now near.now.padding.sites (map with_byte_name cells.now) verdicts.old.items
-        → SetsVerdict l plan.now near.now.padding.sites
+        → AreSomeVerdicts l frame.now near.now.padding.sites (map with_byte_name cells.now) verdicts.old.items
+        → SetsVerdict l frame.now near.now.padding.sites
         (map with_byte_name cells.now) own verdicts.old.items verdicts.new.items }
 {
-    let verdict = broken_in(plan, near, cells, own, cell);
+    let verdict = broken_in(frame, near, cells, own, cell);
     put(verdicts, own, verdict);
 }
 
@@ -212,26 +212,26 @@ fn fetch<'a>(
 /// Sets the verdicts of the cells of the given boxes. `Err` if an allocation fails.
 fn put_verdicts(
     alloc: Global,
-    plan: &IndexedFrame<'_>,
+    frame: &IndexedFrame<'_>,
     near: &OtherBoxes<'_>,
     cells: &[Listed<&[u8]>],
     boxes: &[Placed],
     verdicts: &mut Vec<Option<Broken>>,
 ) -> Result<(), AllocError>
-    requires listed { AreListedBoxes plan.now cells.now near.now.boxes.now }
+    requires listed { AreListedBoxes frame.now cells.now near.now.boxes.now }
     requires known { All (λ p. p.own < length cells.now) boxes.now }
     requires count { length verdicts.old.items ≡ length cells.now }
     ensures count { length verdicts.new.items ≡ length cells.now }
     ensures put { (l : Legalizer) (done : List Placed)
-        → HaveVerdicts l plan.now near.now.padding.sites (map with_byte_name cells.now) done verdicts.old.items →
-        OnOk result (HaveVerdicts l plan.now near.now.padding.sites (map with_byte_name cells.now)
+        → HaveVerdicts l frame.now near.now.padding.sites (map with_byte_name cells.now) done verdicts.old.items →
+        OnOk result (HaveVerdicts l frame.now near.now.padding.sites (map with_byte_name cells.now)
         (done ++ boxes.now) verdicts.new.items) }
 {
     let fetched = fetch(alloc, cells, boxes)?;
     for (number, placed) in boxes.iter().enumerate() {
         let own = placed.own as usize;
         let cell = &fetched[number];
-        put_verdict(plan, near, cells, own, cell, verdicts);
+        put_verdict(frame, near, cells, own, cell, verdicts);
     }
     Ok(())
 }
@@ -243,20 +243,20 @@ const FETCHED: usize = 4096;
 /// the placed cells, so neighboring cells follow each other. `Err` if an allocation fails.
 fn verdicts_in(
     alloc: Global,
-    plan: &IndexedFrame<'_>,
+    frame: &IndexedFrame<'_>,
     near: &OtherBoxes<'_>,
     cells: &[Listed<&[u8]>],
 ) -> Result<Vec<Option<Broken>>, AllocError>
-    requires { AreListedBoxes plan.now cells.now near.now.boxes.now }
+    requires { AreListedBoxes frame.now cells.now near.now.boxes.now }
     ensures count { IfOk result (λ verdicts. length verdicts.items ≡ length cells.now) }
     ensures each { (l : Legalizer) → IfOk result
-        (λ verdicts. AreVerdicts l plan.now near.now.padding.sites (map with_byte_name cells.now) verdicts.items) }
+        (λ verdicts. AreVerdicts l frame.now near.now.padding.sites (map with_byte_name cells.now) verdicts.items) }
 {
     let mut verdicts = no_verdicts(alloc, cells.len())?;
     let mut rest = near.boxes.boxes();
     while !rest.is_empty() {
         let (boxes, after_it) = rest.split_at(rest.len().min(FETCHED));
-        put_verdicts(alloc, plan, near, cells, boxes, &mut verdicts)?;
+        put_verdicts(alloc, frame, near, cells, boxes, &mut verdicts)?;
         rest = after_it;
     }
     Ok(verdicts)
@@ -366,23 +366,23 @@ fn boxes_in(
 /// cells. `Err` if an allocation fails.
 pub fn verdicts_with_plan(
     alloc: Global,
-    plan: &IndexedFrame<'_>,
+    frame: &IndexedFrame<'_>,
     cells: &[Listed<&[u8]>],
     padding: Padding,
 ) -> Result<Vec<Option<Broken>>, AllocError>
-    requires listed { All (λ c. IsListed plan.now (with_byte_name c)) cells.now }
+    requires listed { All (λ c. IsListed frame.now (with_byte_name c)) cells.now }
     requires few { length cells.now ≤ 4000000 }
     ensures count { IfOk result (λ verdicts. length verdicts.items ≡ length cells.now) }
     ensures each { (l : Legalizer)
-        → IfOk result (λ verdicts. AreVerdicts l plan.now padding.sites (map with_byte_name cells.now) verdicts.items) }
+        → IfOk result (λ verdicts. AreVerdicts l frame.now padding.sites (map with_byte_name cells.now) verdicts.items) }
 {
-    let boxes = boxes_in(alloc, plan.frame(), cells)?;
+    let boxes = boxes_in(alloc, frame.frame(), cells)?;
     let tree = RTree::build(alloc, boxes)?;
     let near = OtherBoxes {
         boxes: &tree,
         padding,
     };
-    verdicts_in(alloc, plan, &near, cells)
+    verdicts_in(alloc, frame, &near, cells)
 }
 
 /// Returns for each cell, with no padding, the first rule that it breaks at its place, or `None`.

@@ -39,7 +39,7 @@ impl<'a, W: Sink> BufferedOutput<'a, W> {
             → IsUnderWay self.old.failed (W.contents before)
             (W.contents self.old.sink.now) text self.old.waiting.now.items
             → OnOk result (Appends (W.contents before) (W.contents self.new.sink.now) text) }
-        ensures front { (before : W) (text : List ℕ)
+        ensures prefix { (before : W) (text : List ℕ)
             → IsUnderWay self.old.failed (W.contents before)
             (W.contents self.old.sink.now) text self.old.waiting.now.items
             → OnErr result ((n : ℕ) × Appends (W.contents before) (W.contents self.new.sink.now) (take n text)) }

@@ -37,7 +37,7 @@ pub(crate) fn send_both<W: Sink>(
     ensures ok { OnOk result (Appends (W.contents sink.old) (W.contents sink.new) (first.now ++ second.now)) }
     ensures flushed { OnOk result (W.is_flushed sink.new ≡ true) }
     ensures healthy { OnOk result (W.has_failed sink.new ≡ W.has_failed sink.old) }
-    ensures front { OnErr result
+    ensures prefix { OnErr result
         ((n : ℕ) × Appends (W.contents sink.old) (W.contents sink.new) (take n (first.now ++ second.now))) }
     ensures failed { OnErr result (W.has_failed sink.new ≡ true) }
     ensures held { W.holds sink.new ≡ W.holds sink.old }
@@ -60,7 +60,7 @@ fn send_reply<K: Seeker + Drop, W: Sink>(
         (Appends (W.contents sink.old) (W.contents sink.new) (reply_text_of floor.now team.now reply.now)) }
     ensures flushed { OnOk result (W.is_flushed sink.new ≡ true) }
     ensures healthy { OnOk result (W.has_failed sink.new ≡ W.has_failed sink.old) }
-    ensures front { OnErr result ((n : ℕ)
+    ensures prefix { OnErr result ((n : ℕ)
         × Appends (W.contents sink.old) (W.contents sink.new) (take n (reply_text_of floor.now team.now reply.now))) }
     ensures failed { OnErr result (W.has_failed sink.new ≡ true) }
     ensures held { W.holds sink.new ≡ W.holds sink.old }
@@ -112,7 +112,7 @@ fn send_def<K: Seeker + Drop, W: Sink>(
         (Appends (W.contents sink.old) (W.contents sink.new) (text.old.items ++ def_text floor.now team.now)) }
     ensures flushed { OnOk result (W.is_flushed sink.new ≡ true) }
     ensures healthy { OnOk result (W.has_failed sink.new ≡ W.has_failed sink.old) }
-    ensures front { OnErr result ((n : ℕ) × Appends (W.contents sink.old) (W.contents sink.new)
+    ensures prefix { OnErr result ((n : ℕ) × Appends (W.contents sink.old) (W.contents sink.new)
         (take n (text.old.items ++ def_text floor.now team.now))) }
     ensures failed { OnErr result (W.has_failed sink.new ≡ true) }
     ensures held { W.holds sink.new ≡ W.holds sink.old }
@@ -137,7 +137,7 @@ pub(crate) fn send_response<K: Seeker + Drop, W: Sink>(
         (reply_text_of floor.now team.now (reply_in floor.now team.now response.now))) }
     ensures flushed { OnOk result (W.is_flushed sink.new ≡ true) }
     ensures healthy { OnOk result (W.has_failed sink.new ≡ W.has_failed sink.old) }
-    ensures front { OnErr result ((n : ℕ)
+    ensures prefix { OnErr result ((n : ℕ)
         × Appends (W.contents sink.old) (W.contents sink.new)
         (take n (reply_text_of floor.now team.now (reply_in floor.now team.now response.now)))) }
     ensures failed { OnErr result (W.has_failed sink.new ≡ true) }

@@ -52,12 +52,12 @@ cell_line-again name c rest fits =
     ap (read_cell name) (line-rest name (place_text c.working ∷ place_text c.committed ∷ []) rest)
     ∙ rw (due-again OtherDesign name (32 ∷ between), space-again OtherDesign between, spot-in c.working last fits.0, spot-last c.committed rest fits.1) refl
 
-move_line-again : (cells : ℕ) → cells < 2 ^ 32 → (m : Move) (rest : List ℕ) → (m.own < cells) × IfSome m.old IsSpot → move_at cells (move_line m ++ rest) ≡ Ok (m, rest)
+move_line-again : (cells : ℕ) → cells < 2 ^ 32 → (m : Move) (rest : List ℕ) → (m.own < cells) × IfSome m.place IsSpot → move_at cells (move_line m ++ rest) ≡ Ok (m, rest)
 unfolding move_at
 move_line-again cells small m rest fits =
     let own = fits.0 in
-    ap (move_at cells) (line-rest (decimal m.own) (place_text m.old ∷ []) rest)
-    ∙ rw (below-again cells 32 m.own (place_text m.old ++ (10 ∷ rest)) (omega arith) (omega arith) own, spot-last m.old rest fits.1) refl
+    ap (move_at cells) (line-rest (decimal m.own) (place_text m.place ∷ []) rest)
+    ∙ rw (below-again cells 32 m.own (place_text m.place ++ (10 ∷ rest)) (omega arith) (omega arith) own, spot-last m.place rest fits.1) refl
 
 entry_lines-again : (cells : ℕ) → cells < 2 ^ 32 → (ms : List Move) (rest : List ℕ) → AllByRecursion (λ m. m.own < cells) ms × IsSpottedEntry ms
     → entry_at cells (entry_lines ms ++ rest) ≡ Ok (ms, rest)
@@ -68,8 +68,8 @@ entry_lines-again cells small ms rest fits =
     let undo : due_at Unexpected (codes "undo ") (codes "undo" ++ (32 ∷ counted)) ≡ Ok counted = due-again Unexpected (codes "undo ") counted in
     ap (entry_at cells) (append_assoc (spaced_line (codes "undo" ∷ decimal (length ms) ∷ [])) (flat_map move_line ms) rest ∙ line-rest (codes "undo") (decimal (length ms) ∷ []) moves)
     ∙ rw (undo, number-again 10 (length ms) moves (omega arith) fits.1.0)
-    (many-again (move_at cells) move_line (λ m. (m.own < cells) × IfSome m.old IsSpot) (move_line-again cells small) ms rest
-    (both_all (λ (m : Move). m.own < cells) (λ (m : Move). IfSome m.old IsSpot) ms fits.0 fits.1.1))
+    (many-again (move_at cells) move_line (λ m. (m.own < cells) × IfSome m.place IsSpot) (move_line-again cells small) ms rest
+    (both_all (λ (m : Move). m.own < cells) (λ (m : Move). IfSome m.place IsSpot) ms fits.0 fits.1.1))
 
 -- ---- a team's first line
 

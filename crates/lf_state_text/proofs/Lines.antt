@@ -136,11 +136,11 @@ count_less cells (m ∷ moves) = by (nat_lt m.own cells) (count_less cells moves
   by true less = omega (arith, less)
   by false less = omega (arith, less)
 
-pub entry_spotted : (cells : ℕ) (moves : List Move) → length moves ≤ 4294967295 → All (λ m. IfSome m.old IsSpot) moves → IsSpottedEntry (moves_within cells moves)
+pub entry_spotted : (cells : ℕ) (moves : List Move) → length moves ≤ 4294967295 → All (λ m. IfSome m.place IsSpot) moves → IsSpottedEntry (moves_within cells moves)
 entry_spotted cells moves few spotted = (
   omega (arith, few, count_less cells moves),
-  recursion_from_All (λ (m : Move). IfSome m.old IsSpot) (moves_within cells moves)
-      (All-filter (λ (m : Move). nat_lt m.own cells) (λ (m : Move). IfSome m.old IsSpot) moves spotted),
+  recursion_from_All (λ (m : Move). IfSome m.place IsSpot) (moves_within cells moves)
+      (All-filter (λ (m : Move). nat_lt m.own cells) (λ (m : Move). IfSome m.place IsSpot) moves spotted),
 )
 
 -- the fact holds for one more element

@@ -130,7 +130,7 @@ unfoldable pub move_at : ℕ → List ℕ → Result (Move × List ℕ) TextFaul
 move_at cells bytes = do
   own ← below_at cells 32 bytes
   place ← read_spot 10 own.1
-  Ok (record { own = own.0; old = place.0 }, place.1)
+  Ok (record { own = own.0; place = place.0 }, place.1)
 
 -- this number of items, one after another
 unfoldable pub many_at : {X : Type 0} → (List ℕ → Result (X × List ℕ) TextFault) → ℕ → List ℕ

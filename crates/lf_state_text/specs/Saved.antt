@@ -66,7 +66,7 @@ cell_line name c = spaced_line (name ∷ place_text c.working ∷ place_text c.c
 
 -- CELL PLACE: the cell's position among the team's, and the place that it had
 abbrev pub move_line : Move → List ℕ
-move_line m = spaced_line (decimal m.own ∷ place_text m.old ∷ [])
+move_line m = spaced_line (decimal m.own ∷ place_text m.place ∷ [])
 
 -- undo MOVES, and a line for each move
 abbrev pub entry_lines : List Move → List ℕ
@@ -128,7 +128,7 @@ abbrev pub IsSpottedCell : SavedCell → Type 0
 IsSpottedCell c = IfSome c.working IsSpot × IfSome c.committed IsSpot
 
 abbrev pub IsSpottedEntry : List Move → Type 0
-IsSpottedEntry moves = (length moves < 2 ^ 32) × AllByRecursion (λ m. IfSome m.old IsSpot) moves
+IsSpottedEntry moves = (length moves < 2 ^ 32) × AllByRecursion (λ m. IfSome m.place IsSpot) moves
 
 -- the coordinates of the team's cells and undo entries are below 2^31, and its padding is at most
 -- 16

@@ -35,9 +35,9 @@ pub(crate) fn cell_known(cell: &SavedCell)
 
 /// A law: the same for the places of moves.
 pub(crate) fn moves_known(moves: &Moves)
-    ensures { All (λ m. IfSome m.old IsSpot) moves.now }
+    ensures { All (λ m. IfSome m.place IsSpot) moves.now }
 {
     for known in moves.as_slice() {
-        place_known(&known.old);
+        place_known(&known.place);
     }
 }

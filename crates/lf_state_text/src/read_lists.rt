@@ -36,7 +36,7 @@ fn move_at(cells: usize, cursor: &mut Cursor) -> Result<Move, ReadError>
 {
     let own = below_at(cells, WordEnd::Space, cursor)?;
     let old = read_place_or_none(WordEnd::LineFeed, cursor)?;
-    Ok(Move { own, old })
+    Ok(Move { own, place: old })
 }
 
 /// Reads `count` session slots of a team with this revision.

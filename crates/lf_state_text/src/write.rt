@@ -142,7 +142,7 @@ fn put_move<O: Output>(out: &mut O, made: &Move)
     put_line(
         out,
         &Word::Count(made.own as usize),
-        &[Word::Spot(made.old)],
+        &[Word::Spot(made.place)],
     );
 }
 

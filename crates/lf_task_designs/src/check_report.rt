@@ -134,7 +134,7 @@ fn design_report(alloc: Global, loaded: &Loaded) -> Result<DesignReport, AllocEr
 /// Writes the text and a line feed.
 fn put_line<W: Sink>(writer: &mut W, text: &[u8]) -> Result<(), DeviceFault>
     ensures ok { OnOk result (Appends (W.contents writer.old) (W.contents writer.new) (text.now ++ 10 ∷ [])) }
-    ensures front { OnErr result
+    ensures prefix { OnErr result
         ((n : ℕ) × Appends (W.contents writer.old) (W.contents writer.new) (take n (text.now ++ 10 ∷ []))) }
     ensures failed { OnErr result (W.has_failed writer.new ≡ true) }
     ensures writer_held { W.holds writer.new ≡ W.holds writer.old }

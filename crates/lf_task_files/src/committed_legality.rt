@@ -86,16 +86,16 @@ fn are_none(unplaced: usize, illegal: usize) -> bool
 /// fails.
 fn are_legal(
     alloc: Global,
-    plan: &IndexedFrame<'_>,
+    frame: &IndexedFrame<'_>,
     cells: &[Listed<&[u8]>],
 ) -> Result<bool, AllocError>
-    requires listed { All (λ c. IsListed plan.now (with_byte_name c)) cells.now }
+    requires listed { All (λ c. IsListed frame.now (with_byte_name c)) cells.now }
     requires few { length cells.now ≤ 4000000 }
     ensures { IfOk result (λ legal. IsTrue legal
-        ↔ IsFullyLegal plan.now (map design_cell_of (map with_byte_name cells.now))) }
+        ↔ IsFullyLegal frame.now (map design_cell_of (map with_byte_name cells.now))) }
 {
     legalizer_exists();
-    let verdicts = verdicts_with_plan(alloc, plan, cells, Padding::none())?;
+    let verdicts = verdicts_with_plan(alloc, frame, cells, Padding::none())?;
     Ok(are_none(unplaced_in(cells), illegal_in(&verdicts)))
 }
 

@@ -84,11 +84,11 @@ fn improve_named<'f, P: Progress>(
     ensures longer { IfOk result (λ done. done.length ≤ length) }
     ensures err { IfErr result (λ fault. fault ≡ SetupOutOfMemory) }
 {
-    let wish = ImproveWish {
+    let goal = ImproveWish {
         options: plan.options,
         length,
     };
-    match improve_team(alloc, floor, name, &plan.wires, &wish, &plan.search, lines) {
+    match improve_team(alloc, floor, name, &plan.wires, &goal, &plan.search, lines) {
         Ok(done) => Ok(done),
         Err(_) => Err(Fault::SetupOutOfMemory),
     }

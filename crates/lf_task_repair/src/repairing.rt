@@ -52,7 +52,7 @@ fn repair_named<'f, P: Progress>(
     alloc: Global,
     floor: &mut Floor<IndexSeeker>,
     name: &[u8],
-    how: MovePolicy,
+    policy: MovePolicy,
     search: &RepairSearch<'_>,
     lines: &mut ProgressSink<'_, P>,
     report: &mut RepairReport,
@@ -60,14 +60,14 @@ fn repair_named<'f, P: Progress>(
     ensures run { (l : Legalizer)
         → OnOk result (IsKeptRun l floor.old (kept_text lines.old.lines) (kept_text lines.new.lines) floor.new) }
     ensures only { ChangesOnly name.now floor.old floor.new }
-    ensures kept { how ≡ Keep → KeepsLegalPlaces name.now floor.old floor.new }
+    ensures kept { policy ≡ Keep → KeepsLegalPlaces name.now floor.old floor.new }
     ensures reported { OnOk result
         ((repaired : RepairStats) × IsOneMore floor.new name.now repaired report.old report.new
         × IsRepairOf search.now.reach report.old.impossible.items name.now floor.old floor.new repaired) }
     ensures err { IfErr result (λ fault. fault ≡ SetupOutOfMemory) }
 {
     let impossible = report.impossible.as_slice();
-    match repair_team(alloc, floor, name, how, search, impossible, lines) {
+    match repair_team(alloc, floor, name, policy, search, impossible, lines) {
         Ok(repaired) => {
             report.add(alloc, floor, name, &repaired)?;
             Ok(())

@@ -72,7 +72,7 @@ pub(crate) fn try_files<'a, E: OutputFiles>(
 fn put_report<'f, W: Sink>(writer: &mut W, report: &[u8]) -> Result<(), Fault<'f>>
     ensures ok { OnOk result (Appends (W.contents writer.old) (W.contents writer.new) report.now) }
     ensures healthy { OnOk result (W.has_failed writer.new ≡ W.has_failed writer.old) }
-    ensures front { OnErr result
+    ensures prefix { OnErr result
         ((n : ℕ) × Appends (W.contents writer.old) (W.contents writer.new) (take n report.now)) }
     ensures err { IfErr result (λ fault. fault ≡ Output) }
     ensures failed { OnErr result (W.has_failed writer.new ≡ true) }

@@ -99,38 +99,38 @@ fn serve_port<'a, V: PortListener, W: Sink>(
 /// Answers the lines of the source on the floor.
 pub(crate) fn serve_source<'a, D: Devices>(
     alloc: Global,
-    around: &mut Environment<D>,
+    environment: &mut Environment<D>,
     floor: &mut Floor<IndexSeeker>,
     lines: LineSource,
 ) -> Result<(), Fault<'a>>
     requires ready { IsReady D.Reader.has_failed D.Reader.reads D.Writer.has_failed
-        around.old.reader around.old.writer }
+        environment.old.reader environment.old.writer }
     ensures ok { let io = ⟦<Environment<D> as Shows>⟧.io in
         OnOk result
-        (AreAnswered lines floor.old floor.new (streams_of (io around.old) (io around.new))) }
+        (AreAnswered lines floor.old floor.new (streams_of (io environment.old) (io environment.new))) }
     ensures components { floor.new.components ≡ floor.old.components }
     ensures err { let io = ⟦<Environment<D> as Shows>⟧.io in
         IfErr result (λ fault.
-        IsServingFault lines floor.old fault (streams_of (io around.old) (io around.new))
-        × BlamesIn lines (around.new.writer ≡ around.old.writer) (io around.old) (io around.new) fault) }
+        IsServingFault lines floor.old fault (streams_of (io environment.old) (io environment.new))
+        × BlamesIn lines (environment.new.writer ≡ environment.old.writer) (io environment.old) (io environment.new) fault) }
     ensures sound { let io = ⟦<Environment<D> as Shows>⟧.io in
-        OnOk result (IsSound (io around.old) (io around.new)) }
-    ensures exports { around.new.exports ≡ around.old.exports }
+        OnOk result (IsSound (io environment.old) (io environment.new)) }
+    ensures exports { environment.new.exports ≡ environment.old.exports }
     ensures offered { let io = ⟦<Environment<D> as Shows>⟧.io in
-        IsOfferFor lines (io around.old).offers (io around.new).offers }
-    ensures unread { LeavesReader lines around.old.reader around.new.reader }
-    ensures silent { around.new.progress ≡ around.old.progress }
-    ensures texts { around.new.texts ≡ around.old.texts }
-    ensures unreported { around.new.faults ≡ around.old.faults }
-    ensures keeps { let io = ⟦<Environment<D> as Shows>⟧.io in KeepsStreams (io around.old) (io around.new) }
+        IsOfferFor lines (io environment.old).offers (io environment.new).offers }
+    ensures unread { LeavesReader lines environment.old.reader environment.new.reader }
+    ensures silent { environment.new.progress ≡ environment.old.progress }
+    ensures texts { environment.new.texts ≡ environment.old.texts }
+    ensures unreported { environment.new.faults ≡ environment.old.faults }
+    ensures keeps { let io = ⟦<Environment<D> as Shows>⟧.io in KeepsStreams (io environment.old) (io environment.new) }
 {
-    let reader = &mut around.reader;
-    let writer = &mut around.writer;
+    let reader = &mut environment.reader;
+    let writer = &mut environment.writer;
     match lines {
         LineSource::Reader { max_lines } => serve_reader(alloc, floor, max_lines, reader, writer),
         LineSource::Port { port, connections } => {
             let local = local_service(port, connections);
-            serve_port(alloc, &mut around.services, floor, &local, writer)
+            serve_port(alloc, &mut environment.services, floor, &local, writer)
         }
     }
 }

@@ -39,14 +39,14 @@ use std::alloc::Global;
 /// the DEF text, which is needed to export.
 fn serve_floor<'a, D: Devices>(
     alloc: Global,
-    around: &mut Environment<D>,
+    environment: &mut Environment<D>,
     original: Option<&SourceText>,
     floor: &mut Floor<IndexSeeker>,
     lines: LineSource,
     outputs: OutputPaths<'a>,
 ) -> Result<u8, Fault<'a>>
     requires ready { IsReady D.Reader.has_failed D.Reader.reads D.Writer.has_failed
-        around.old.reader around.old.writer }
+        environment.old.reader environment.old.writer }
     requires kept { original ≡ None → path_of outputs.export ≡ None }
     requires fits { (s : FloorState) (places : List (ℕ × Option Place)) → s.components ≡ floor.old.components
         → AreCommittedPlaces s places
@@ -55,66 +55,73 @@ fn serve_floor<'a, D: Devices>(
         (text : List ℕ) (document : Document) → AreKept (option_copied original.entry) text document
         → IfOk result (λ status. (status ≡ 0)
         × IsFinished (AreAnswered lines floor.old) (path_of outputs.entry.save) (path_of outputs.entry.export)
-        text document (streams_of (io around.old) (io around.new))) }
+        text document (streams_of (io environment.old) (io environment.new))) }
     ensures err { let io = ⟦<Environment<D> as Shows>⟧.io in
         (text : List ℕ) (document : Document) → AreKept (option_copied original.entry) text document
         → IfErr result
         (λ fault. IsUnfinished (path_of outputs.entry.save) (path_of outputs.entry.export) lines floor.old
-        text document fault (streams_of (io around.old) (io around.new))
-        × BlamesIn lines (around.new.writer ≡ around.old.writer) (io around.old) (io around.new) fault) }
+        text document fault (streams_of (io environment.old) (io environment.new))
+        × BlamesIn lines (environment.new.writer ≡ environment.old.writer) (io environment.old) (io environment.new) fault) }
     ensures leaves { let io = ⟦<Environment<D> as Shows>⟧.io in
         LeavesDevices lines (path_of outputs.entry.save) (path_of outputs.entry.export) result
-        around.old.exports around.new.exports around.old.reader around.new.reader (io around.old) (io around.new) }
-    ensures silent { around.new.progress ≡ around.old.progress }
-    ensures texts { around.new.texts ≡ around.old.texts }
-    ensures unreported { around.new.faults ≡ around.old.faults }
-    ensures keeps { let io = ⟦<Environment<D> as Shows>⟧.io in KeepsStreams (io around.old) (io around.new) }
+        environment.old.exports environment.new.exports environment.old.reader environment.new.reader (io environment.old) (io environment.new) }
+    ensures silent { environment.new.progress ≡ environment.old.progress }
+    ensures texts { environment.new.texts ≡ environment.old.texts }
+    ensures unreported { environment.new.faults ≡ environment.old.faults }
+    ensures keeps { let io = ⟦<Environment<D> as Shows>⟧.io in KeepsStreams (io environment.old) (io environment.new) }
 {
-    check_outputs(outputs, &mut around.exports)?;
-    serve_source(alloc, around, floor, lines)?;
-    write_outputs(floor, original, outputs, &mut around.exports)?;
+    check_outputs(outputs, &mut environment.exports)?;
+    serve_source(alloc, environment, floor, lines)?;
+    write_outputs(floor, original, outputs, &mut environment.exports)?;
     Ok(0)
 }
 
 /// Works on the design, in the state of the file of this path if one is given.
 fn serve_design<'a, D: Devices>(
     alloc: Global,
-    around: &mut Environment<D>,
+    environment: &mut Environment<D>,
     design: OpenedDesign,
     state: Option<&'a str>,
     lines: LineSource,
     outputs: OutputPaths<'a>,
 ) -> Result<u8, Fault<'a>>
     requires ready { IsReady D.Reader.has_failed D.Reader.reads D.Writer.has_failed
-        around.old.reader around.old.writer }
+        environment.old.reader environment.old.writer }
     requires kept { design.original ≡ None → path_of outputs.export ≡ None }
     requires loads { IsOfOriginal design.original design.loaded }
     ensures ok { let io = ⟦<Environment<D> as Shows>⟧.io in
         (text : List ℕ) (document : Document) → AreKept design.original text document
         → IfOk result (λ status. (status ≡ 0) × ((begin : FloorState)
-        × IsOpenedFloor (D.Texts.gives around.old.texts) (path_of state.entry) (initial_floor design.loaded) begin
+        × IsOpenedFloor (D.Texts.gives environment.old.texts) (path_of state.entry) (initial_floor design.loaded) begin
         × IsFinished (AreAnswered lines begin) (path_of outputs.entry.save) (path_of outputs.entry.export)
-        text document (streams_of (io around.old) (io around.new)))) }
+        text document (streams_of (io environment.old) (io environment.new)))) }
     ensures err { let io = ⟦<Environment<D> as Shows>⟧.io in
         (text : List ℕ) (document : Document) → AreKept design.original text document
-        → IfErr result (λ fault. IsNotServedDesign (D.Texts.gives around.old.texts) (path_of state.entry)
+        → IfErr result (λ fault. IsNotServedDesign (D.Texts.gives environment.old.texts) (path_of state.entry)
         (path_of outputs.entry.save) (path_of outputs.entry.export) lines
-        design.loaded text document fault (streams_of (io around.old) (io around.new))
-        × BlamesIn lines (around.new.writer ≡ around.old.writer) (io around.old) (io around.new) fault) }
+        design.loaded text document fault (streams_of (io environment.old) (io environment.new))
+        × BlamesIn lines (environment.new.writer ≡ environment.old.writer) (io environment.old) (io environment.new) fault) }
     ensures leaves { let io = ⟦<Environment<D> as Shows>⟧.io in
         LeavesDevices lines (path_of outputs.entry.save) (path_of outputs.entry.export) result
-        around.old.exports around.new.exports around.old.reader around.new.reader (io around.old) (io around.new) }
-    ensures silent { around.new.progress ≡ around.old.progress }
-    ensures texts { around.new.texts ≡ around.old.texts }
-    ensures unreported { around.new.faults ≡ around.old.faults }
-    ensures keeps { let io = ⟦<Environment<D> as Shows>⟧.io in KeepsStreams (io around.old) (io around.new) }
+        environment.old.exports environment.new.exports environment.old.reader environment.new.reader (io environment.old) (io environment.new) }
+    ensures silent { environment.new.progress ≡ environment.old.progress }
+    ensures texts { environment.new.texts ≡ environment.old.texts }
+    ensures unreported { environment.new.faults ≡ environment.old.faults }
+    ensures keeps { let io = ⟦<Environment<D> as Shows>⟧.io in KeepsStreams (io environment.old) (io environment.new) }
 {
     kept_clauses_suffice();
     loaded_cells_are_exportable();
     places_follow_design();
     let OpenedDesign { loaded, original } = design;
-    let mut floor = open_floor(alloc, &around.texts, loaded, state)?;
-    serve_floor(alloc, around, original.as_ref(), &mut floor, lines, outputs)
+    let mut floor = open_floor(alloc, &environment.texts, loaded, state)?;
+    serve_floor(
+        alloc,
+        environment,
+        original.as_ref(),
+        &mut floor,
+        lines,
+        outputs,
+    )
 }
 
 /// Works on the design of a DEF file over LEF files, in the state of a state file if one is given.
@@ -126,32 +133,32 @@ fn serve_design<'a, D: Devices>(
 /// not that of writing the state, no file is written.
 pub fn serve_files<'a, D: Devices>(
     alloc: Global,
-    around: &mut Environment<D>,
+    environment: &mut Environment<D>,
     inputs: DesignInput<'a>,
     lines: LineSource,
     outputs: OutputPaths<'a>,
 ) -> Result<u8, Fault<'a>>
     requires ready { IsReady D.Reader.has_failed D.Reader.reads D.Writer.has_failed
-        around.old.reader around.old.writer }
+        environment.old.reader environment.old.writer }
     ensures ok { let io = ⟦<Environment<D> as Shows>⟧.io in
-        IfOk result (λ status. IsServedDesign inputs.entry.limits (D.Texts.gives around.old.texts)
+        IfOk result (λ status. IsServedDesign inputs.entry.limits (D.Texts.gives environment.old.texts)
         inputs.entry.def.now (map (λ lef. lef.now) inputs.entry.lefs.now)
         (path_of inputs.entry.state) (path_of outputs.entry.save) (path_of outputs.entry.export) (AreAnswered lines)
-        (streams_of (io around.old) (io around.new)) × (status ≡ 0)) }
+        (streams_of (io environment.old) (io environment.new)) × (status ≡ 0)) }
     ensures err { let io = ⟦<Environment<D> as Shows>⟧.io in
-        IfErr result (λ fault. IsUndone inputs.entry.limits (D.Texts.gives around.old.texts)
+        IfErr result (λ fault. IsUndone inputs.entry.limits (D.Texts.gives environment.old.texts)
         inputs.entry.def.now (map (λ lef. lef.now) inputs.entry.lefs.now)
         (path_of inputs.entry.state) (path_of outputs.entry.save) (path_of outputs.entry.export) (IsServingFault lines)
         (AreAnswered lines) fault
-        (streams_of (io around.old) (io around.new))
-        × BlamesIn lines (around.new.writer ≡ around.old.writer) (io around.old) (io around.new) fault) }
+        (streams_of (io environment.old) (io environment.new))
+        × BlamesIn lines (environment.new.writer ≡ environment.old.writer) (io environment.old) (io environment.new) fault) }
     ensures leaves { let io = ⟦<Environment<D> as Shows>⟧.io in
         LeavesDevices lines (path_of outputs.entry.save) (path_of outputs.entry.export) result
-        around.old.exports around.new.exports around.old.reader around.new.reader (io around.old) (io around.new) }
-    ensures silent { around.new.progress ≡ around.old.progress }
-    ensures texts { around.new.texts ≡ around.old.texts }
-    ensures unreported { around.new.faults ≡ around.old.faults }
-    ensures keeps { let io = ⟦<Environment<D> as Shows>⟧.io in KeepsStreams (io around.old) (io around.new) }
+        environment.old.exports environment.new.exports environment.old.reader environment.new.reader (io environment.old) (io environment.new) }
+    ensures silent { environment.new.progress ≡ environment.old.progress }
+    ensures texts { environment.new.texts ≡ environment.old.texts }
+    ensures unreported { environment.new.faults ≡ environment.old.faults }
+    ensures keeps { let io = ⟦<Environment<D> as Shows>⟧.io in KeepsStreams (io environment.old) (io environment.new) }
 {
     let DesignInput {
         def,
@@ -160,8 +167,8 @@ pub fn serve_files<'a, D: Devices>(
         limits,
     } = inputs;
     let is_text_kept = outputs.export.is_some();
-    let design = open_design(alloc, limits, &around.texts, def, lefs, is_text_kept)?;
-    serve_design(alloc, around, design, state, lines, outputs)
+    let design = open_design(alloc, limits, &environment.texts, def, lefs, is_text_kept)?;
+    serve_design(alloc, environment, design, state, lines, outputs)
 }
 
 /// Answers the lines of the reader over the design, at most 1,000,000, and exports nothing. Returns

@@ -101,7 +101,7 @@ struct Reported {
 fn repair_to(
     alloc: Global,
     floor: &mut Floor<PlainSeeker>,
-    how: MovePolicy,
+    policy: MovePolicy,
     writer: &mut Room,
 ) -> Result<RepairStats, RepairFault> {
     let search = RepairSearch {
@@ -111,21 +111,21 @@ fn repair_to(
         targets: &[],
     };
     let mut lines = ToWrite::new(writer);
-    repair_team(alloc, floor, b"A", how, &search, &[], &mut lines)
+    repair_team(alloc, floor, b"A", policy, &search, &[], &mut lines)
 }
 
 /// Repairs A with a writer that takes at most `left` bytes of its lines.
 fn repair_within(
     alloc: Global,
     floor: &mut Floor<PlainSeeker>,
-    how: MovePolicy,
+    policy: MovePolicy,
     left: usize,
 ) -> Reported {
     let mut writer = Room {
         taken: Vec::new(alloc),
         left,
     };
-    let repaired = repair_to(alloc, floor, how, &mut writer);
+    let repaired = repair_to(alloc, floor, policy, &mut writer);
     Reported {
         repaired,
         lines: writer.taken,
@@ -145,7 +145,7 @@ fn is_fault(reported: &Reported, fault: RepairFault, lines: &[u8]) -> bool {
 /// `changed` and `left`: the positions of the changed and of the unrepaired cells.
 #[derive(Clone, Copy)]
 struct Comes {
-    how: MovePolicy,
+    policy: MovePolicy,
     counts: [u32; 5],
     ways: (u64, u64),
     changed: &'static [u32],
@@ -169,7 +169,7 @@ fn is_printed(repaired: &RepairStats, comes: &Comes) -> bool {
 
 impl Requested for Comes {
     fn holds(&self, alloc: Global, floor: &mut Floor<PlainSeeker>) -> bool {
-        let reported = repair_within(alloc, floor, self.how, usize::MAX);
+        let reported = repair_within(alloc, floor, self.policy, usize::MAX);
         match &reported.repaired {
             Ok(repaired) => {
                 is_printed(repaired, self) && is_team_legal(floor, b"A") == self.left.is_empty()
@@ -182,9 +182,9 @@ impl Requested for Comes {
 #[test]
 fn cells_without_a_place_get_one(rt: HostRuntime) -> Result<(), Fail> {
     let def = def_of(rt.alloc(), &UNPLACED)?;
-    for how in [MovePolicy::KeepLegal, MovePolicy::MoveAll] {
+    for policy in [MovePolicy::KeepLegal, MovePolicy::MoveAll] {
         let comes = Comes {
-            how,
+            policy,
             counts: [3, 0, 0, 3, 0],
             ways: (0, 0),
             changed: &[0, 1, 2],
@@ -198,9 +198,9 @@ fn cells_without_a_place_get_one(rt: HostRuntime) -> Result<(), Fail> {
 #[test]
 fn a_cell_that_overlaps_moves_beside_the_other(rt: HostRuntime) -> Result<(), Fail> {
     let def = def_of(rt.alloc(), &OVERLAPPING)?;
-    for how in [MovePolicy::KeepLegal, MovePolicy::MoveAll] {
+    for policy in [MovePolicy::KeepLegal, MovePolicy::MoveAll] {
         let comes = Comes {
-            how,
+            policy,
             counts: [2, 1, 1, 0, 0],
             ways: (200, 200),
             changed: &[1],
@@ -215,7 +215,7 @@ fn a_cell_that_overlaps_moves_beside_the_other(rt: HostRuntime) -> Result<(), Fa
 fn a_cell_that_faces_wrongly_turns(rt: HostRuntime) -> Result<(), Fail> {
     let def = def_of(rt.alloc(), &TURNED)?;
     let comes = Comes {
-        how: MovePolicy::KeepLegal,
+        policy: MovePolicy::KeepLegal,
         counts: [1, 2, 0, 0, 1],
         ways: (0, 0),
         changed: &[0],
@@ -229,7 +229,7 @@ fn a_cell_that_faces_wrongly_turns(rt: HostRuntime) -> Result<(), Fail> {
 fn cells_without_room_are_left(rt: HostRuntime) -> Result<(), Fail> {
     let def = narrow_def_of(rt.alloc(), &LEGAL)?;
     let comes = Comes {
-        how: MovePolicy::KeepLegal,
+        policy: MovePolicy::KeepLegal,
         counts: [2, 1, 0, 0, 0],
         ways: (0, 0),
         changed: &[1, 2],
@@ -243,7 +243,7 @@ fn cells_without_room_are_left(rt: HostRuntime) -> Result<(), Fail> {
 fn legal_cells_stay(rt: HostRuntime) -> Result<(), Fail> {
     let def = def_of(rt.alloc(), &LEGAL)?;
     let comes = Comes {
-        how: MovePolicy::KeepLegal,
+        policy: MovePolicy::KeepLegal,
         counts: [0, 3, 0, 0, 0],
         ways: (0, 0),
         changed: &[],
@@ -257,13 +257,13 @@ fn legal_cells_stay(rt: HostRuntime) -> Result<(), Fail> {
 fn a_cell_that_moves_keeps_clear_of_a_soft_blockage(rt: HostRuntime) -> Result<(), Fail> {
     let soft = b"- PLACEMENT + SOFT RECT ( 400 0 ) ( 800 2000 ) ;";
     let def = soft_def_of(rt.alloc(), &OVERLAPPING, soft)?;
-    for how in [
+    for policy in [
         MovePolicy::KeepLegal,
         MovePolicy::MoveAsNeeded,
         MovePolicy::MoveAll,
     ] {
         let comes = Comes {
-            how,
+            policy,
             counts: [2, 1, 1, 0, 0],
             ways: (600, 600),
             changed: &[1],
@@ -278,13 +278,13 @@ fn a_cell_that_moves_keeps_clear_of_a_soft_blockage(rt: HostRuntime) -> Result<(
 fn a_legal_cell_on_a_soft_blockage_stays(rt: HostRuntime) -> Result<(), Fail> {
     let soft = b"- PLACEMENT + SOFT RECT ( 0 0 ) ( 4000 4000 ) ;";
     let def = soft_def_of(rt.alloc(), &LEGAL, soft)?;
-    for how in [
+    for policy in [
         MovePolicy::KeepLegal,
         MovePolicy::MoveAsNeeded,
         MovePolicy::MoveAll,
     ] {
         let comes = Comes {
-            how,
+            policy,
             counts: [0, 3, 0, 0, 0],
             ways: (0, 0),
             changed: &[],
@@ -315,13 +315,13 @@ fn a_team_is_whole_and_legal(rt: HostRuntime) -> Result<(), Fail> {
 /// The expected lines of a repair.
 #[derive(Clone, Copy)]
 struct Writes {
-    how: MovePolicy,
+    policy: MovePolicy,
     lines: &'static [u8],
 }
 
 impl Requested for Writes {
     fn holds(&self, alloc: Global, floor: &mut Floor<PlainSeeker>) -> bool {
-        let reported = repair_within(alloc, floor, self.how, usize::MAX);
+        let reported = repair_within(alloc, floor, self.policy, usize::MAX);
         reported.repaired.is_ok() && reported.lines.as_slice() == self.lines
     }
 }
@@ -330,12 +330,12 @@ impl Requested for Writes {
 fn a_legal_team_is_committed_and_no_cell_of_it_is_named(rt: HostRuntime) -> Result<(), Fail> {
     let def = def_of(rt.alloc(), &LEGAL)?;
     let lines = b"open A\ncommit A 0\nclose A 0\n";
-    for how in [
+    for policy in [
         MovePolicy::KeepLegal,
         MovePolicy::MoveAsNeeded,
         MovePolicy::MoveAll,
     ] {
-        assert!(rt; holds(rt.alloc(), &def, &Writes { how, lines })?);
+        assert!(rt; holds(rt.alloc(), &def, &Writes { policy, lines })?);
     }
     Ok(())
 }
@@ -343,9 +343,9 @@ fn a_legal_team_is_committed_and_no_cell_of_it_is_named(rt: HostRuntime) -> Resu
 #[test]
 fn a_team_with_cells_left_is_not_committed(rt: HostRuntime) -> Result<(), Fail> {
     let def = narrow_def_of(rt.alloc(), &LEGAL)?;
-    let how = MovePolicy::KeepLegal;
+    let policy = MovePolicy::KeepLegal;
     let lines = b"open A\nunplace A 0 a2\nunplace A 0 a3\nclose A 0\n";
-    assert!(rt; holds(rt.alloc(), &def, &Writes { how, lines })?);
+    assert!(rt; holds(rt.alloc(), &def, &Writes { policy, lines })?);
     Ok(())
 }
 
@@ -393,8 +393,8 @@ fn each_byte_of_the_lines_may_find_no_room(rt: HostRuntime) -> Result<(), Fail> 
             "{left} bytes"
         );
     }
-    let (how, lines) = (MovePolicy::KeepLegal, LINES);
-    assert!(rt; holds(rt.alloc(), &def, &Writes { how, lines })?);
+    let (policy, lines) = (MovePolicy::KeepLegal, LINES);
+    assert!(rt; holds(rt.alloc(), &def, &Writes { policy, lines })?);
     Ok(())
 }
 

@@ -20,16 +20,16 @@ undo_settings places (s ∷ settings) =
 -- Moves in two runs: the second is taken back first.
 pub taken_back-append : (first second : List Move) (places : Places) → moves_taken_back (first ++ second) places ≡ moves_taken_back first (moves_taken_back second places)
 taken_back-append [] second places = refl
-taken_back-append (m ∷ first) second places = ap (λ (ps : Places). set ps m.own m.old) (taken_back-append first second places)
+taken_back-append (m ∷ first) second places = ap (λ (ps : Places). set ps m.own m.place) (taken_back-append first second places)
 
 -- The last move is taken back first.
-pub back_append : (moves : List Move) (m : Move) (places : Places) → moves_taken_back (moves ++ m ∷ []) places ≡ moves_taken_back moves (set places m.own m.old)
+pub back_append : (moves : List Move) (m : Move) (places : Places) → moves_taken_back (moves ++ m ∷ []) places ≡ moves_taken_back moves (set places m.own m.place)
 back_append moves m places = taken_back-append moves (m ∷ []) places
 
 pub undo_one_more : (before now : Places) (moves : List Move) (cell : ℕ) (to : Option Place) →
     moves_taken_back moves now ≡ before → moves_taken_back (moves_with moves now cell) (set now cell to) ≡ before
 undo_one_more before now moves cell to is =
-    back_append moves (record { own = cell; old = get_or now cell None }) (set now cell to)
+    back_append moves (record { own = cell; place = get_or now cell None }) (set now cell to)
     ∙ ap (moves_taken_back moves) (set_back now cell to) ∙ is
 
 pub take_entries : (now : Places) (entries : List (List Move)) (limit : ℕ) → entries_of now (take limit entries) ≡ take limit (entries_of now entries)
@@ -55,7 +55,7 @@ no_entries now (ms ∷ entries) at = absurd (none-some ms (sym at))
 
 pub taken_back_length : (moves : List Move) (places : Places) → length (moves_taken_back moves places) ≡ length places
 taken_back_length [] places = refl
-taken_back_length (m ∷ ms) places = length-set (moves_taken_back ms places) m.own m.old ∙ taken_back_length ms places
+taken_back_length (m ∷ ms) places = length-set (moves_taken_back ms places) m.own m.place ∙ taken_back_length ms places
 
 pub count_entries : (now : Places) (entries : List (List Move)) → length (entries_of now entries) ≡ length entries
 count_entries now [] = refl

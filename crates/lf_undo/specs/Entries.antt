@@ -11,7 +11,7 @@ Places = List (Option Place)
 -- cell that moved twice gets its first place.
 abbrev pub moves_taken_back : List Move → Places → Places
 moves_taken_back [] places = places
-moves_taken_back (m ∷ ms) places = slice_set (moves_taken_back ms places) m.own m.old
+moves_taken_back (m ∷ ms) places = slice_set (moves_taken_back ms places) m.own m.place
 
 -- The places prior to each entry, newest first, from the present ones.
 abbrev pub entries_of : Places → List (List Move) → List Places
@@ -21,13 +21,13 @@ entries_of places (ms ∷ entries) = moves_taken_back ms places ∷ entries_of (
 -- The moves, with the place of the one at this position replaced.
 abbrev pub replaced : List Move → ℕ → Option Place → List Move
 replaced moves at old = slice_set moves at record {
-  own = (slice_index_or moves at record { own = 0; old = None }).own;
-  old = old;
+  own = (slice_index_or moves at record { own = 0; place = None }).own;
+  place = old;
 }
 
 -- The moves so far and one more, which holds the cell's present place.
 abbrev pub moves_with : List Move → Places → ℕ → List Move
-moves_with moves places own = moves ++ record { own = own; old = slice_index_or places own None } ∷ []
+moves_with moves places own = moves ++ record { own = own; place = slice_index_or places own None } ∷ []
 
 -- The places after settings of cells, one after another.
 abbrev pub places_set : Places → List (ℕ × Option Place) → Places
@@ -38,4 +38,4 @@ places_set places (s ∷ settings) = places_set (slice_set places s.0 s.1) setti
 abbrev pub moves_of : Places → List (ℕ × Option Place) → List Move
 moves_of places [] = []
 moves_of places (s ∷ settings) =
-    record { own = s.0; old = slice_index_or places s.0 None } ∷ moves_of (slice_set places s.0 s.1) settings
+    record { own = s.0; place = slice_index_or places s.0 None } ∷ moves_of (slice_set places s.0 s.1) settings

@@ -13,17 +13,17 @@ use std::marker::Model;
 #[derive(Clone, Copy, Debug, PartialEq, Eq)]
 pub struct Move {
     pub own: u32,
-    pub old: PackedPlace,
+    pub place: PackedPlace,
 }
 
 impl Move {
     /// Returns the move of the cell at this position, with this previous place.
     pub fn new(own: u32, old: Option<Place>) -> Self
-        ensures { result ≡ record { own = own; old = old } }
+        ensures { result ≡ record { own = own; place = old } }
     {
         Move {
             own,
-            old: PackedPlace::of(old),
+            place: PackedPlace::of(old),
         }
     }
 }
@@ -88,7 +88,7 @@ impl<A: Allocator> Moves<A> {
         requires { at < length self.old }
         ensures { self.new ≡ replaced self.old at old }
     {
-        self.moves[at].old = PackedPlace::of(old);
+        self.moves[at].place = PackedPlace::of(old);
     }
 
     /// A law: there are at most 4,294,967,295 moves.

@@ -109,13 +109,13 @@ pub returns-in-Repair-clause-err : goal.returns-in-Repair-clause-err
 returns-in-Repair-clause-err g c =
     let i = rw c.in-Repair.is at c.input_of-inputs.ensures in
     let job = c.job_of-job in
-    let err = not_done_at (repair_means c.repair_of-work.result.options) (g.D.Texts.InputFiles.gives c.args.around.now.texts) (request_of job.result) _ (requested_at _ _ _ _ _ _ _ _ job.result i job.ensures.input (job.ensures.teams ∙ c.as_slice.ensures) refl job.ensures.files) c.run_task.result
-    (g.D.Writer.Sink.contents c.args.around.now.writer) (g.D.Writer.Sink.contents c.run_task.new.writer)
-    (g.D.Exports.OutputFiles.puts c.args.around.now.exports) (g.D.Exports.OutputFiles.puts c.run_task.new.exports)
-    (c.run_task.new.writer ≡ c.args.around.now.writer) (g.D.Writer.Sink.has_failed c.args.around.now.writer) (g.D.Writer.Sink.has_failed c.run_task.new.writer) (g.D.Exports.OutputFiles.has_failed c.args.around.now.exports) (g.D.Exports.OutputFiles.has_failed c.run_task.new.exports) c.run_task.ensures.err in
-    rw c.in-Repair.is (also_fails c.run_task.result _ (λ fault. BlamesOutputs fault (c.run_task.new.writer ≡ c.args.around.now.writer) (g.D.Writer.Sink.has_failed c.args.around.now.writer) (g.D.Writer.Sink.has_failed c.run_task.new.writer) (g.D.Exports.OutputFiles.has_failed c.args.around.now.exports) (g.D.Exports.OutputFiles.has_failed c.run_task.new.exports)) _ (rw c.repair_of-work.ensures at err)
-    (λ fault blames. blames_as fault (c.run_task.new.writer ≡ c.args.around.now.writer) _ ⊥ _ ((g.D.Writer.Sink.has_failed c.run_task.new.writer) ≡ true) _ ((g.D.Exports.OutputFiles.has_failed c.run_task.new.exports) ≡ true) _ ⊥ _ (((g.D.Writer.Sink.has_failed c.run_task.new.writer) ≡ (g.D.Writer.Sink.has_failed c.args.around.now.writer)) × ((g.D.Exports.OutputFiles.has_failed c.run_task.new.exports) ≡ (g.D.Exports.OutputFiles.has_failed c.args.around.now.exports))) _ blames (λ k. k) (λ none. absurd none) (λ w. w) (λ e. e) (λ none. absurd none)
-    (λ (sound : ((g.D.Writer.Sink.has_failed c.run_task.new.writer) ≡ (g.D.Writer.Sink.has_failed c.args.around.now.writer)) × ((g.D.Exports.OutputFiles.has_failed c.run_task.new.exports) ≡ (g.D.Exports.OutputFiles.has_failed c.args.around.now.exports))). sound_by _ _ sound.1 refl refl sound.0)))
+    let err = not_done_at (repair_means c.repair_of-work.result.options) (g.D.Texts.InputFiles.gives c.args.environment.now.texts) (request_of job.result) _ (requested_at _ _ _ _ _ _ _ _ job.result i job.ensures.input (job.ensures.teams ∙ c.as_slice.ensures) refl job.ensures.files) c.run_task.result
+    (g.D.Writer.Sink.contents c.args.environment.now.writer) (g.D.Writer.Sink.contents c.run_task.new.writer)
+    (g.D.Exports.OutputFiles.puts c.args.environment.now.exports) (g.D.Exports.OutputFiles.puts c.run_task.new.exports)
+    (c.run_task.new.writer ≡ c.args.environment.now.writer) (g.D.Writer.Sink.has_failed c.args.environment.now.writer) (g.D.Writer.Sink.has_failed c.run_task.new.writer) (g.D.Exports.OutputFiles.has_failed c.args.environment.now.exports) (g.D.Exports.OutputFiles.has_failed c.run_task.new.exports) c.run_task.ensures.err in
+    rw c.in-Repair.is (also_fails c.run_task.result _ (λ fault. BlamesOutputs fault (c.run_task.new.writer ≡ c.args.environment.now.writer) (g.D.Writer.Sink.has_failed c.args.environment.now.writer) (g.D.Writer.Sink.has_failed c.run_task.new.writer) (g.D.Exports.OutputFiles.has_failed c.args.environment.now.exports) (g.D.Exports.OutputFiles.has_failed c.run_task.new.exports)) _ (rw c.repair_of-work.ensures at err)
+    (λ fault blames. blames_as fault (c.run_task.new.writer ≡ c.args.environment.now.writer) _ ⊥ _ ((g.D.Writer.Sink.has_failed c.run_task.new.writer) ≡ true) _ ((g.D.Exports.OutputFiles.has_failed c.run_task.new.exports) ≡ true) _ ⊥ _ (((g.D.Writer.Sink.has_failed c.run_task.new.writer) ≡ (g.D.Writer.Sink.has_failed c.args.environment.now.writer)) × ((g.D.Exports.OutputFiles.has_failed c.run_task.new.exports) ≡ (g.D.Exports.OutputFiles.has_failed c.args.environment.now.exports))) _ blames (λ k. k) (λ none. absurd none) (λ w. w) (λ e. e) (λ none. absurd none)
+    (λ (sound : ((g.D.Writer.Sink.has_failed c.run_task.new.writer) ≡ (g.D.Writer.Sink.has_failed c.args.environment.now.writer)) × ((g.D.Exports.OutputFiles.has_failed c.run_task.new.exports) ≡ (g.D.Exports.OutputFiles.has_failed c.args.environment.now.exports))). sound_by _ _ sound.1 refl refl sound.0)))
 
 pub returns-in-Repair-clause-unput : goal.returns-in-Repair-clause-unput
 returns-in-Repair-clause-unput g c = λ alone.
@@ -139,13 +139,13 @@ pub returns-in-Improve-clause-err : goal.returns-in-Improve-clause-err
 returns-in-Improve-clause-err g c =
     let i = rw c.in-Improve.is at c.input_of-inputs.ensures in
     let job = c.job_of-job-in-Improve in
-    let err = not_done_at (improve_means c.improvement_of-work.result.within) (g.D.Texts.InputFiles.gives c.args.around.now.texts) (request_of job.result) _ (requested_at _ _ _ _ _ _ _ _ job.result i job.ensures.input (job.ensures.teams ∙ c.as_slice-in-Improve.ensures) refl job.ensures.files) c.run_task-in-Improve.result
-    (g.D.Writer.Sink.contents c.args.around.now.writer) (g.D.Writer.Sink.contents c.run_task-in-Improve.new.writer)
-    (g.D.Exports.OutputFiles.puts c.args.around.now.exports) (g.D.Exports.OutputFiles.puts c.run_task-in-Improve.new.exports)
-    (c.run_task-in-Improve.new.writer ≡ c.args.around.now.writer) (g.D.Writer.Sink.has_failed c.args.around.now.writer) (g.D.Writer.Sink.has_failed c.run_task-in-Improve.new.writer) (g.D.Exports.OutputFiles.has_failed c.args.around.now.exports) (g.D.Exports.OutputFiles.has_failed c.run_task-in-Improve.new.exports) c.run_task-in-Improve.ensures.err in
-    rw c.in-Improve.is (also_fails c.run_task-in-Improve.result _ (λ fault. BlamesOutputs fault (c.run_task-in-Improve.new.writer ≡ c.args.around.now.writer) (g.D.Writer.Sink.has_failed c.args.around.now.writer) (g.D.Writer.Sink.has_failed c.run_task-in-Improve.new.writer) (g.D.Exports.OutputFiles.has_failed c.args.around.now.exports) (g.D.Exports.OutputFiles.has_failed c.run_task-in-Improve.new.exports)) _ (rw c.improvement_of-work.ensures.within at err)
-    (λ fault blames. blames_as fault (c.run_task-in-Improve.new.writer ≡ c.args.around.now.writer) _ ⊥ _ ((g.D.Writer.Sink.has_failed c.run_task-in-Improve.new.writer) ≡ true) _ ((g.D.Exports.OutputFiles.has_failed c.run_task-in-Improve.new.exports) ≡ true) _ ⊥ _ (((g.D.Writer.Sink.has_failed c.run_task-in-Improve.new.writer) ≡ (g.D.Writer.Sink.has_failed c.args.around.now.writer)) × ((g.D.Exports.OutputFiles.has_failed c.run_task-in-Improve.new.exports) ≡ (g.D.Exports.OutputFiles.has_failed c.args.around.now.exports))) _ blames (λ k. k) (λ none. absurd none) (λ w. w) (λ e. e) (λ none. absurd none)
-    (λ (sound : ((g.D.Writer.Sink.has_failed c.run_task-in-Improve.new.writer) ≡ (g.D.Writer.Sink.has_failed c.args.around.now.writer)) × ((g.D.Exports.OutputFiles.has_failed c.run_task-in-Improve.new.exports) ≡ (g.D.Exports.OutputFiles.has_failed c.args.around.now.exports))). sound_by _ _ sound.1 refl refl sound.0)))
+    let err = not_done_at (improve_means c.improvement_of-work.result.within) (g.D.Texts.InputFiles.gives c.args.environment.now.texts) (request_of job.result) _ (requested_at _ _ _ _ _ _ _ _ job.result i job.ensures.input (job.ensures.teams ∙ c.as_slice-in-Improve.ensures) refl job.ensures.files) c.run_task-in-Improve.result
+    (g.D.Writer.Sink.contents c.args.environment.now.writer) (g.D.Writer.Sink.contents c.run_task-in-Improve.new.writer)
+    (g.D.Exports.OutputFiles.puts c.args.environment.now.exports) (g.D.Exports.OutputFiles.puts c.run_task-in-Improve.new.exports)
+    (c.run_task-in-Improve.new.writer ≡ c.args.environment.now.writer) (g.D.Writer.Sink.has_failed c.args.environment.now.writer) (g.D.Writer.Sink.has_failed c.run_task-in-Improve.new.writer) (g.D.Exports.OutputFiles.has_failed c.args.environment.now.exports) (g.D.Exports.OutputFiles.has_failed c.run_task-in-Improve.new.exports) c.run_task-in-Improve.ensures.err in
+    rw c.in-Improve.is (also_fails c.run_task-in-Improve.result _ (λ fault. BlamesOutputs fault (c.run_task-in-Improve.new.writer ≡ c.args.environment.now.writer) (g.D.Writer.Sink.has_failed c.args.environment.now.writer) (g.D.Writer.Sink.has_failed c.run_task-in-Improve.new.writer) (g.D.Exports.OutputFiles.has_failed c.args.environment.now.exports) (g.D.Exports.OutputFiles.has_failed c.run_task-in-Improve.new.exports)) _ (rw c.improvement_of-work.ensures.within at err)
+    (λ fault blames. blames_as fault (c.run_task-in-Improve.new.writer ≡ c.args.environment.now.writer) _ ⊥ _ ((g.D.Writer.Sink.has_failed c.run_task-in-Improve.new.writer) ≡ true) _ ((g.D.Exports.OutputFiles.has_failed c.run_task-in-Improve.new.exports) ≡ true) _ ⊥ _ (((g.D.Writer.Sink.has_failed c.run_task-in-Improve.new.writer) ≡ (g.D.Writer.Sink.has_failed c.args.environment.now.writer)) × ((g.D.Exports.OutputFiles.has_failed c.run_task-in-Improve.new.exports) ≡ (g.D.Exports.OutputFiles.has_failed c.args.environment.now.exports))) _ blames (λ k. k) (λ none. absurd none) (λ w. w) (λ e. e) (λ none. absurd none)
+    (λ (sound : ((g.D.Writer.Sink.has_failed c.run_task-in-Improve.new.writer) ≡ (g.D.Writer.Sink.has_failed c.args.environment.now.writer)) × ((g.D.Exports.OutputFiles.has_failed c.run_task-in-Improve.new.exports) ≡ (g.D.Exports.OutputFiles.has_failed c.args.environment.now.exports))). sound_by _ _ sound.1 refl refl sound.0)))
 
 pub returns-in-Improve-clause-unput : goal.returns-in-Improve-clause-unput
 returns-in-Improve-clause-unput g c = λ alone.

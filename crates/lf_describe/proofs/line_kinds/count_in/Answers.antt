@@ -8,6 +8,6 @@ use Rattle.lf_describe.proofs.line_kinds.count_in.Goals as goal
 
 pub returns-in-Cells : goal.returns-in-Cells
 returns-in-Cells c =
-    let reported = c.args.reported.now in
+    let reported = c.args.design.now in
     let same : length (part_lines reported Cells) ≡ length (described_cells reported) = count _ 0 (described_cells reported) in
     rw c.in-Cells.is (sym (same ∙ length-map reported.cells.now with_byte_name))

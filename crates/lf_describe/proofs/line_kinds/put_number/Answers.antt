@@ -12,7 +12,7 @@ pub returns-in_default-clause-err : goal.returns-in_default-clause-err
 returns-in_default-clause-err g c = λ d at. unwritten _ _
 
 pub put_line-requires : goal.put_line-requires
-put_line-requires g c = no_float c.args.reported.now c.args.part c.args.number _ (sym c.in-Ok.ensures ∙ ap (option_map view) c.in-Some.is)
+put_line-requires g c = no_float c.args.design.now c.args.part c.args.number _ (sym c.in-Ok.ensures ∙ ap (option_map view) c.in-Some.is)
 
 pub returns-clause-ok : goal.returns-clause-ok
 returns-clause-ok g c = λ d at.

@@ -12,12 +12,12 @@ pub returns-clause-ok : goal.returns-clause-ok
 returns-clause-ok g c =
     on_ok_weaker c.write_all_kinds.result
     (λ p. subst (Appends (g.W.Sink.contents c.args.writer.now) (g.W.Sink.contents c.write_all_kinds.new.writer))
-    (ap (λ (w : List ℕ). w ++ flat_map (part_text c.args.reported.now) PARTS) c.new-waiting.ensures.items ∙ text_of_parts c.args.reported.now) p)
+    (ap (λ (w : List ℕ). w ++ flat_map (part_text c.args.design.now) PARTS) c.new-waiting.ensures.items ∙ text_of_parts c.args.design.now) p)
     c.write_all_kinds.ensures.ok
 
 pub returns-clause-err : goal.returns-clause-err
 returns-clause-err g c =
     on_err_weaker c.write_all_kinds.result
     (λ p. subst (AppendsFront (g.W.Sink.contents c.args.writer.now) (g.W.Sink.contents c.write_all_kinds.new.writer))
-    (ap (λ (w : List ℕ). w ++ flat_map (part_text c.args.reported.now) PARTS) c.new-waiting.ensures.items ∙ text_of_parts c.args.reported.now) p)
+    (ap (λ (w : List ℕ). w ++ flat_map (part_text c.args.design.now) PARTS) c.new-waiting.ensures.items ∙ text_of_parts c.args.design.now) p)
     c.write_all_kinds.ensures.err

@@ -21,32 +21,32 @@ returns-clause-ok g c = λ l.
     let number = c.args.number in
     let old = c.args.tables.now in
     let new = c.run_command.new.self in
-    subst (λ (v : FloorState). IfOk c.run_command.result (λ reply. IsGivenAnswer (answer_at (Some number) l (floor_in old) (order_of c.args.order.now)) reply v))
+    subst (λ (v : FloorState). IfOk c.run_command.result (λ reply. IsGivenAnswer (answer_at (Some number) l (floor_in old) (order_of c.args.command.now)) reply v))
     (sym (floor_changed old new number c.run_command.ensures.others))
     (IfOk-weaker c.run_command.result _ _ (λ reply reaches.
-    gives l (frame_of old) old.placement.cells.components (teams_in old) number (order_of c.args.order.now) (own_team number old) (own_team number new) reply
+    gives l (frame_of old) old.placement.cells.components (teams_in old) number (order_of c.args.command.now) (own_team number old) (own_team number new) reply
     (team_there old number (rw c.requires.tables.revisions c.requires.within)) reaches)
     (subst (λ (n : ℕ). IfOk c.run_command.result (λ reply.
-    IsOutcome (outcome_of (team_rules l (frame_of old) number n) (order_of c.args.order.now) (own_team number old)) reply (own_team number new))) c.padding.ensures (c.run_command.ensures.ok l)))
+    IsOutcome (outcome_of (team_rules l (frame_of old) number n) (order_of c.args.command.now) (own_team number old)) reply (own_team number new))) c.padding.ensures (c.run_command.ensures.ok l)))
 
 pub returns-clause-err : goal.returns-clause-err
 returns-clause-err g c = λ l.
     let number = c.args.number in
     let old = c.args.tables.now in
     let new = c.run_command.new.self in
-    subst (λ (v : FloorState). OnErr c.run_command.result (IsOutOfMemoryAnswer (answer_at (Some number) l (floor_in old) (order_of c.args.order.now)) (floor_in old) v))
+    subst (λ (v : FloorState). OnErr c.run_command.result (IsOutOfMemoryAnswer (answer_at (Some number) l (floor_in old) (order_of c.args.command.now)) (floor_in old) v))
     (sym (floor_changed old new number c.run_command.ensures.others))
     (on_err_weaker c.run_command.result (λ out.
-    stays_short l (frame_of old) old.placement.cells.components (teams_in old) number (order_of c.args.order.now) (own_team number old) (own_team number new)
+    stays_short l (frame_of old) old.placement.cells.components (teams_in old) number (order_of c.args.command.now) (own_team number old) (own_team number new)
     (team_there old number (rw c.requires.tables.revisions c.requires.within)) out)
     (subst (λ (n : ℕ). OnErr c.run_command.result
-    (IsOutOfMemory (outcome_of (team_rules l (frame_of old) number n) (order_of c.args.order.now) (own_team number old)) (own_team number old) (own_team number new))) c.padding.ensures (c.run_command.ensures.err l)))
+    (IsOutOfMemory (outcome_of (team_rules l (frame_of old) number n) (order_of c.args.command.now) (own_team number old)) (own_team number old) (own_team number new))) c.padding.ensures (c.run_command.ensures.err l)))
 
 pub returns-clause-untested : goal.returns-clause-untested
 returns-clause-untested g c = λ l.
     let number = c.args.number in
     let old = c.args.tables.now in
-    let order = order_of c.args.order.now in
+    let order = order_of c.args.command.now in
     on_err_weaker c.run_command.result (λ untested.
     stays_untested l (frame_of old) old.placement.cells.components (teams_in old) number order (own_team number old)
     (team_there old number (rw c.requires.tables.revisions c.requires.within)) untested)
@@ -61,7 +61,7 @@ returns-clause-tables g c =
     let old = c.args.tables.now in
     let new = c.run_command.new.self in
     let s = own_team number old in
-    let order = order_of c.args.order.now in
+    let order = order_of c.args.command.now in
     let before : IsTeamOf f s = each_team (λ t. IsTeamOf f t) old number c.requires.tables.teams (rw c.requires.tables.revisions c.requires.within) in
     tables_still old new number c.run_command.ensures.others c.requires.tables
     (kept_by (λ (t : TeamState). IsTeamOf f t) (outcome_of (team_rules l f number c.padding.result.sites) order s) s (own_team number new) c.run_command.result (c.run_command.ensures.ok l) (c.run_command.ensures.err l) before

@@ -74,6 +74,6 @@ pub returns-clause-awaits : goal.returns-clause-awaits
 returns-clause-awaits c = λ other apart awaits.
     let old = c.args.tables.now in
     let mid : Tables = record old { placement = c.restore_entries.new.placement; undo = c.restore_entries.new.undo } in
-    still_awaits other c.args.tally.now c.restore_entries.new.tally old mid c.set_numbers.new.tables c.in_ok-restore_entries.ensures.cells
+    still_awaits other c.args.counts.now c.restore_entries.new.counts old mid c.set_numbers.new.tables c.in_ok-restore_entries.ensures.cells
     (c.in_ok-restore_entries.ensures.others.stacks other apart) c.set_numbers.ensures.placement c.set_numbers.ensures.undo
     (λ at bounds. c.in_ok-restore_entries.ensures.tally at other apart bounds) awaits

@@ -63,7 +63,7 @@ loop-alloc-preserved c =
       cells = c.in_ok-restore_team.ensures.cells ∙ c.loop-alloc.invariant.cells;
       room = c.in_ok-restore_team.ensures.room;
       each =
-          rest_awaits (length rest) (length left) c.loop-alloc.tally c.restore_team.new.tally now c.restore_team.new.tables more c.loop-alloc.invariant.each
+          rest_awaits (length rest) (length left) c.loop-alloc.counts c.restore_team.new.counts now c.restore_team.new.tables more c.loop-alloc.invariant.each
           (λ other apart awaits. c.in_ok-restore_team.ensures.awaits other (λ same. apart (same ∙ here)) awaits);
     }
 

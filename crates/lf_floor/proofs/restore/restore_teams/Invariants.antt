@@ -11,8 +11,8 @@ invariant-loop-alloc l = record {
   left : AreLeft l.fn.tables l.tables (saved_teams_at l.fn.tables (team_views l.fn.rows.items)) (saved_teams_at l.fn.tables (team_views l.left.items));
   few : length l.left.items ≤ length (teams_in l.fn.tables);
   cells : l.tables.placement.cells ≡ l.fn.tables.placement.cells;
-  room : KeepsCapacities l.tally l.tables.placement.held.rooms;
-  each : FirstHaveNoEntriesYet (length l.left.items) l.tally l.tables;
+  room : KeepsCapacities l.counts l.tables.placement.held.rooms;
+  each : FirstHaveNoEntriesYet (length l.left.items) l.counts l.tables;
 }
 
 abbrev pub decreases-loop-alloc : goal.decreases-loop-alloc

@@ -11,9 +11,9 @@ abbrev pub invariant-loop-moves : goal.invariant-loop-moves
 invariant-loop-moves l = record {
   rest : (p : Placing) → SameButRooms l.placement p → All (Fits p l.team) (entries_of l.places (drop l.moves-index l.entries))
       → All (Fits p l.team) (entries_of l.fn.places l.entries);
-  room : KeepsCapacities l.tally l.placement.held.rooms;
-  bounds : BoundsAt l.placement l.team l.places l.tally;
+  room : KeepsCapacities l.counts l.placement.held.rooms;
+  bounds : BoundsAt l.placement l.team l.places l.counts;
   many : length l.places ≡ length l.fn.places;
   same : SameButRooms l.fn.placement l.placement;
-  others : (at : Places) → (other : ℕ) → other ≢ l.team → BoundsAt l.fn.placement other at l.fn.tally → BoundsAt l.placement other at l.tally;
+  others : (at : Places) → (other : ℕ) → other ≢ l.team → BoundsAt l.fn.placement other at l.fn.counts → BoundsAt l.placement other at l.counts;
 }

@@ -15,8 +15,8 @@ use Rattle.lf_floor_verbs.proofs.report.report_text.Goals as goal
 
 pub returns : goal.returns
 returns g c =
-    let number = c.args.around.now.number in
-    let sites = c.args.around.now.padding.sites in
+    let number = c.args.context.now.number in
+    let sites = c.args.context.now.padding.sites in
     let f = frame_of c.args.tables.now in
     let cells = table_cells number c.args.tables.now in
     let listed = map (listed_of number) cells in

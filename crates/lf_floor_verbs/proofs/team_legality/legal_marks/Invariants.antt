@@ -5,4 +5,4 @@ use Rattle.lf_floor_verbs.proofs.team_legality.legal_marks.Given as goal
 -- each mark so far is right
 abbrev pub invariant-loop-own : goal.invariant-loop-own
 invariant-loop-own g l =
-    AreMarked (frame_of l.tables) l.around.number l.around.padding.sites (table_cells l.around.number l.tables) l.marks.items
+    AreMarked (frame_of l.tables) l.context.number l.context.padding.sites (table_cells l.context.number l.tables) l.marks.items

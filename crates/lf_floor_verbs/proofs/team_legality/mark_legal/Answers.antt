@@ -9,8 +9,8 @@ use Rattle.lf_floor_verbs.proofs.team_legality.mark_legal.Goals as goal
 
 pub returns : goal.returns
 returns g c = λ are.
-    let number = c.args.around.now.number in
-    let sites = c.args.around.now.padding.sites in
+    let number = c.args.context.now.number in
+    let sites = c.args.context.now.padding.sites in
     let tables = c.args.tables.now in
     let cells = table_cells number tables in
     one_more_mark (frame_of tables) number sites c.args.own cells c.args.marks.now.items c.mark.new.marks.items c.mark.ensures

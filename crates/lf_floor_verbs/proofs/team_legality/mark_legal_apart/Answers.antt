@@ -10,16 +10,16 @@ use Rattle.lf_floor_verbs.proofs.team_legality.mark_legal_apart.Goals as goal
 
 pub is_legal_apart-requires : goal.is_legal_apart-requires
 is_legal_apart-requires g c =
-    let number = c.args.around.now.number in
+    let number = c.args.context.now.number in
     let tables = c.args.tables.now in
     let cells = table_cells number tables in
-    subst (λ (i : CellId). OverlapsNoCell tables.placement c.args.around.now.padding.sites i)
+    subst (λ (i : CellId). OverlapsNoCell tables.placement c.args.context.now.padding.sites i)
     (sym (id_is cells number c.args.own c.in-Some.id (sym c.in-Some.is ∙ c.cell_at.ensures))) c.requires
 
 pub returns : goal.returns
 returns g c = λ are.
-    let number = c.args.around.now.number in
-    let sites = c.args.around.now.padding.sites in
+    let number = c.args.context.now.number in
+    let sites = c.args.context.now.padding.sites in
     let tables = c.args.tables.now in
     let cells = table_cells number tables in
     one_more_mark (frame_of tables) number sites c.args.own cells c.args.marks.now.items c.mark.new.marks.items c.mark.ensures

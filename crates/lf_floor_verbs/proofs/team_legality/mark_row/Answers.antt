@@ -7,8 +7,8 @@ use Rattle.lf_floor_verbs.proofs.team_legality.mark_row.Goals as goal
 pub mark_legal_apart-requires : goal.mark_legal_apart-requires
 mark_legal_apart-requires g c =
     let p = c.args.tables.now.placement in
-    let number = c.args.around.now.number in
-    let sites = c.args.around.now.padding.sites in
+    let number = c.args.context.now.number in
+    let sites = c.args.context.now.padding.sites in
     let all = subst (λ (xs : List ℕ). All (λ own. OverlapsNoCell p sites (id_of number own)) xs) (sym c.deref-own-items.ensures.value) c.in_ok-apart.ensures in
     all c.loop-own.own-index 0 c.loop-own-test.true
 

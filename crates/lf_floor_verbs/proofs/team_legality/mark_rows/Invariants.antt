@@ -5,5 +5,5 @@ use Rattle.lf_floor_verbs.proofs.team_legality.mark_rows.Given as goal
 -- each mark so far is right, if the earlier marks were
 abbrev pub invariant-loop-row : goal.invariant-loop-row
 invariant-loop-row g l =
-    AreMarked (frame_of l.tables) l.around.number l.around.padding.sites (table_cells l.around.number l.tables) l.initial.marks.items
-    → AreMarked (frame_of l.tables) l.around.number l.around.padding.sites (table_cells l.around.number l.tables) l.marks.items
+    AreMarked (frame_of l.tables) l.context.number l.context.padding.sites (table_cells l.context.number l.tables) l.initial.marks.items
+    → AreMarked (frame_of l.tables) l.context.number l.context.padding.sites (table_cells l.context.number l.tables) l.marks.items

@@ -14,12 +14,12 @@ use Rattle.lf_floor_verbs.proofs.tidy.tidy_cells.Given as goal
 abbrev pub invariant-loop-own : goal.invariant-loop-own
 invariant-loop-own g l = record {
   going : (j : Legalizer)
-      → tidied_from j l.initial.placement.frame l.around.number l.around.padding.sites l.own (l.own-end - l.own)
-      (Going (map member_of (cells_of l.placement.cells l.around.number)) l.moved)
-      ≡ tidied j l.initial.placement.frame l.around.number l.around.padding.sites (map member_of (cells_of l.initial.placement.cells l.around.number));
-  moved : (before : List Cell) → HaveMoved before l.initial.moves (cells_of l.initial.placement.cells l.around.number)
-      → HaveMoved before l.moves (cells_of l.placement.cells l.around.number);
-  only : OnlyMovesTeam l.around.number l.initial.placement l.placement;
-  marked : AreMarked l.initial.placement.frame l.around.number l.around.padding.sites (cells_of l.placement.cells l.around.number) l.marks;
+      → tidied_from j l.initial.placement.frame l.context.number l.context.padding.sites l.own (l.own-end - l.own)
+      (Going (map member_of (cells_of l.placement.cells l.context.number)) l.moved)
+      ≡ tidied j l.initial.placement.frame l.context.number l.context.padding.sites (map member_of (cells_of l.initial.placement.cells l.context.number));
+  moved : (before : List Cell) → HaveMoved before l.initial.moves (cells_of l.initial.placement.cells l.context.number)
+      → HaveMoved before l.moves (cells_of l.placement.cells l.context.number);
+  only : OnlyMovesTeam l.context.number l.initial.placement l.placement;
+  marked : AreMarked l.initial.placement.frame l.context.number l.context.padding.sites (cells_of l.placement.cells l.context.number) l.marks;
   few : l.moved ≤ l.own;
 }

@@ -12,4 +12,4 @@ returns-then-same_place c =
 pub returns : goal.returns
 returns c =
     one_noted (cells_of c.args.cells.now c.args.id.team) c.args.id.own c.args.moves.now c.push.new.self c.new.result
-    (ap (λ (m : Move). m.own) c.new.ensures) (ap (λ (m : Move). m.old) c.new.ensures ∙ c.committed-committed.ensures) (c.in_ok-push.ensures {u = tt}).ok
+    (ap (λ (m : Move). m.own) c.new.ensures) (ap (λ (m : Move). m.place) c.new.ensures ∙ c.committed-committed.ensures) (c.in_ok-push.ensures {u = tt}).ok

@@ -26,7 +26,7 @@ returns-clause-err g c = λ l.
 pub returns-in-Ok-close-clause-improved : goal.returns-in-Ok-close-clause-improved
 returns-in-Ok-close-clause-improved g c =
     let attempt = c.args.attempt.now in
-    improved_through attempt.wires.now.netlist.now.nets attempt.wish.now.length attempt.wish.now.options.within attempt.start.now.pass.targets.items c.args.team.now
+    improved_through attempt.wires.now.netlist.now.nets attempt.goal.now.length attempt.goal.now.options.within attempt.input.now.pass.targets.items c.args.team.now
     c.move_cells.new.floor c.close.new.floor c.in-Ok-close.ensures.only c.in-Ok-close.ensures.cells c.in-Ok-move_cells.found c.in-Ok-move_cells.ensures.improved
 
 pub returns-in-Ok-close-clause-kept : goal.returns-in-Ok-close-clause-kept

@@ -18,39 +18,39 @@ returns-then-not-is_improvable-clause-counted g c =
     let team = c.args.team.now in
     let floor = c.args.floor.now in
     let named : team_number floor.frame team ≡ Some c.in-Some.number = sym c.team_number.ensures ∙ c.in-Some.is in
-    team_stats_of team floor floor c.in-Some.number c.in-Ok.start.pass.targets.items c.in-Ok.start.legal.items c.result_of.result.stats named
+    team_stats_of team floor floor c.in-Some.number c.in-Ok.input.pass.targets.items c.in-Ok.input.legal.items c.result_of.result.stats named
     (unchanged team floor) c.in-Ok.ensures.targets (c.in-Ok.ensures.legal team named) c.result_of.ensures.tally
 
 pub returns-in-Ok-improve_in_session-clause-measured : goal.returns-in-Ok-improve_in_session-clause-measured
 returns-in-Ok-improve_in_session-clause-measured g c =
     let nets = c.args.wires.now.netlist.now.nets in
-    let wish = c.args.wish.now in
+    let wish = c.args.goal.now in
     let done = c.in-Ok-improve_in_session.ensures in
     let new = c.improve_in_session.new.floor in
     subst (λ (n : ℕ). IsWireLengthOn nets new n) (sym c.result_of-in-Ok-improve_in_session.ensures.length)
-    (measured_of nets wish.length wish.options.within c.in-Ok.start.pass.targets.items c.args.team.now c.args.floor.now new done.only c.in-Ok-improve_in_session.found done.improved done.kept c.requires.measured)
+    (measured_of nets wish.length wish.options.within c.in-Ok.input.pass.targets.items c.args.team.now c.args.floor.now new done.only c.in-Ok-improve_in_session.found done.improved done.kept c.requires.measured)
 
 pub returns-in-Ok-improve_in_session-clause-improved : goal.returns-in-Ok-improve_in_session-clause-improved
 returns-in-Ok-improve_in_session-clause-improved g c = λ l is.
-    let wish = c.args.wish.now in
+    let wish = c.args.goal.now in
     let done = c.in-Ok-improve_in_session.ensures in
-    committed_if c.args.wires.now.netlist.now.nets wish.length wish.options.within c.in-Ok.start.pass.targets.items c.args.team.now c.args.floor.now c.improve_in_session.new.floor done.only
+    committed_if c.args.wires.now.netlist.now.nets wish.length wish.options.within c.in-Ok.input.pass.targets.items c.args.team.now c.args.floor.now c.improve_in_session.new.floor done.only
     c.in-Ok-improve_in_session.found done.improved (sym c.result_of-in-Ok-improve_in_session.ensures.improved ∙ is) l
 
 pub returns-in-Ok-improve_in_session-clause-near : goal.returns-in-Ok-improve_in_session-clause-near
 returns-in-Ok-improve_in_session-clause-near g c =
-    let wish = c.args.wish.now in
+    let wish = c.args.goal.now in
     let done = c.in-Ok-improve_in_session.ensures in
     let named : team_number c.args.floor.now.frame c.args.team.now ≡ Some c.in-Some.number = sym c.team_number.ensures ∙ c.in-Some.is in
-    near_in_any c.args.wires.now.netlist.now.nets wish.length wish.options.within c.in-Ok.start.pass.targets.items c.args.team.now c.args.floor.now c.improve_in_session.new.floor done.only
+    near_in_any c.args.wires.now.netlist.now.nets wish.length wish.options.within c.in-Ok.input.pass.targets.items c.args.team.now c.args.floor.now c.improve_in_session.new.floor done.only
     c.in-Some.number c.in-Ok-improve_in_session.found named c.in-Ok.ensures.targets done.improved done.kept
 
 pub returns-in-Ok-improve_in_session-clause-off_soft : goal.returns-in-Ok-improve_in_session-clause-off_soft
 returns-in-Ok-improve_in_session-clause-off_soft g c =
-    let wish = c.args.wish.now in
+    let wish = c.args.goal.now in
     let done = c.in-Ok-improve_in_session.ensures in
     let named : team_number c.args.floor.now.frame c.args.team.now ≡ Some c.in-Some.number = sym c.team_number.ensures ∙ c.in-Some.is in
-    off_soft_in_any c.args.wires.now.netlist.now.nets wish.length wish.options.within c.in-Ok.start.pass.targets.items c.args.team.now c.args.floor.now c.improve_in_session.new.floor done.only
+    off_soft_in_any c.args.wires.now.netlist.now.nets wish.length wish.options.within c.in-Ok.input.pass.targets.items c.args.team.now c.args.floor.now c.improve_in_session.new.floor done.only
     c.in-Some.number c.in-Ok-improve_in_session.found named c.in-Ok.ensures.targets done.improved done.kept
 
 pub returns-then-not-is_improvable-clause-off_soft : goal.returns-then-not-is_improvable-clause-off_soft
@@ -60,7 +60,7 @@ pub returns-in-Ok-improve_in_session-clause-counted : goal.returns-in-Ok-improve
 returns-in-Ok-improve_in_session-clause-counted g c =
     let team = c.args.team.now in
     let named : team_number c.args.floor.now.frame team ≡ Some c.in-Some.number = sym c.team_number.ensures ∙ c.in-Some.is in
-    team_stats_of team c.args.floor.now c.improve_in_session.new.floor c.in-Some.number c.in-Ok.start.pass.targets.items c.in-Ok.start.legal.items c.result_of-in-Ok-improve_in_session.result.stats named
+    team_stats_of team c.args.floor.now c.improve_in_session.new.floor c.in-Some.number c.in-Ok.input.pass.targets.items c.in-Ok.input.legal.items c.result_of-in-Ok-improve_in_session.result.stats named
     c.in-Ok-improve_in_session.ensures.only c.in-Ok.ensures.targets (c.in-Ok.ensures.legal team named) c.result_of-in-Ok-improve_in_session.ensures.tally
 
 pub returns-in-Ok-improve_in_session-clause-cells : goal.returns-in-Ok-improve_in_session-clause-cells
@@ -72,5 +72,5 @@ returns-in-Ok-improve_in_session-clause-cells g c = λ s was.
 pub improve_in_session-requires-clause-decides : goal.improve_in_session-requires-clause-decides
 improve_in_session-requires-clause-decides g c =
     let named : team_number c.args.floor.now.frame c.args.team.now ≡ Some c.in-Some.number = sym c.team_number.ensures ∙ c.in-Some.is in
-    decides c.args.team.now c.in-Some.number c.args.wires.now.of_teams.now c.args.wires.now.netlist.now.nets c.args.wish.now.length c.length_of_team.result c.args.floor.now
+    decides c.args.team.now c.in-Some.number c.args.wires.now.of_teams.now c.args.wires.now.netlist.now.nets c.args.goal.now.length c.length_of_team.result c.args.floor.now
     c.requires.nets named c.length_is_bounded.ensures c.requires.measured c.length_of_team.ensures

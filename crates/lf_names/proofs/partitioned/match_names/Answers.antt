@@ -15,7 +15,7 @@ loop-position-preserved c =
       left = λ questions keeps. c.cut.ensures.back ∙ cut_back questions i _ (read store questions i c.at-entry.result keeps (omega arith) c.at-entry.ensures) c.loop-position.remaining.now (known.left questions keeps);
       matched = λ own questions names table keeps.
           let r = read store questions i c.at-entry.result keeps (omega arith) c.at-entry.ensures in
-          let name = c.cut.ensures.front ∙ cut_front questions i _ r c.loop-position.remaining.now (known.left questions keeps) in
+          let name = c.cut.ensures.prefix ∙ cut_front questions i _ r c.loop-position.remaining.now (known.left questions keeps) in
           let label = c.label_of.ensures own names table ∙ ap (label_in own) name in
           ap (λ ms. ms ++ matches_of own (drop (i + 1) questions)) c.in_ok-add_match.ensures
           ∙ ap (λ (e : Entry). (matches ++ option_to_list (option_map (labels_of e.label) c.label_of.result)) ++ matches_of own (drop (i + 1) questions)) r.entry

@@ -17,7 +17,7 @@ loop-position-preserved c =
           c.cut.ensures.back ∙ cut_back own i _ (read store own i c.at.result keeps (omega arith) c.at.ensures) c.loop-position.remaining.now (known.left own keeps);
       known = λ own keeps.
           let r = read store own i c.at.result keeps (omega arith) c.at.ensures in
-          let name = c.cut.ensures.front ∙ cut_front own i _ r c.loop-position.remaining.now (known.left own keeps) in
+          let name = c.cut.ensures.prefix ∙ cut_front own i _ r c.loop-position.remaining.now (known.left own keeps) in
           adds.2 ∙ ap (λ ns. ns ++ c.cut.result.0.now ∷ []) (known.known own keeps) ∙ ap (λ n. map (λ m. m.name) (take i own) ++ n ∷ []) name ∙ sym r.known;
       differ = rw adds.2 (differ_more c.loop-position.table c.cut.result.0.now adds.0 known.differ);
     }
@@ -28,7 +28,7 @@ returns-in-Present-clause-none c = λ own keeps.
     let i = c.loop-position.position in
     let known = c.loop-position.invariant in
     let r = read store own i c.at.result keeps (omega arith) c.at.ensures in
-    let name = c.cut.ensures.front ∙ cut_front own i _ r c.loop-position.remaining.now (known.left own keeps) in
+    let name = c.cut.ensures.prefix ∙ cut_front own i _ r c.loop-position.remaining.now (known.left own keeps) in
     let adds = rw c.in-Present.is at c.in_ok-add.ensures.ok in
     let there : position_of (map (λ n. n.name) (take i own)) r.one.name ≡ Some c.in-Present.field-0 = ap (position_of (map (λ n. n.name) (take i own))) (sym name) ∙ ap (λ ns. position_of ns c.cut.result.0.now) (sym (known.known own keeps)) ∙ adds.0 in
     occurs_twice own i _ r c.in-Present.field-0 there

@@ -16,14 +16,14 @@ loop-n-preserved c =
     let within : c.loop-n.n < length c.loop-n.mark_lists.items = omega (arith, bound, test, many, same) in
     record {
       kept = kept_along c.args.mark_lists.now.items c.loop-n.mark_lists.items _ c.loop-n.invariant.kept
-          (kept_set c.loop-n.mark_lists.items c.loop-n.n c.index_mut.result.now c.make_room.new.mark_list within c.index_mut.ensures.value
-          c.in_ok-make_room.ensures.kept);
+          (kept_set c.loop-n.mark_lists.items c.loop-n.n c.index_mut.result.now c.reserve_marks.new.mark_list within c.index_mut.ensures.value
+          c.in_ok-reserve_marks.ensures.kept);
       room = room_further c.args.more c.widened_strips-near.result.start c.loop-n.n c.widened_strips-near.result.end c.loop-n.mark_lists.items c.index_mut.result.now
-          c.make_room.new.mark_list within c.index_mut.ensures.value c.in_ok-make_room.ensures.ok c.loop-n.invariant.room;
+          c.reserve_marks.new.mark_list within c.index_mut.ensures.value c.in_ok-reserve_marks.ensures.ok c.loop-n.invariant.room;
     }
 
-pub returns-in_err-make_room : goal.returns-in_err-make_room
-returns-in_err-make_room c =
+pub returns-in_err-reserve_marks : goal.returns-in_err-reserve_marks
+returns-in_err-reserve_marks c =
     let bound = c.widened_strips-near.ensures.within in
     let test = c.loop-n-test.true in
     let many = c.requires in
@@ -31,8 +31,8 @@ returns-in_err-make_room c =
     let within : c.loop-n.n < length c.loop-n.mark_lists.items = omega (arith, bound, test, many, same) in
     record {
       kept = kept_along c.args.mark_lists.now.items c.loop-n.mark_lists.items _ c.loop-n.invariant.kept
-          (kept_set c.loop-n.mark_lists.items c.loop-n.n c.index_mut.result.now c.make_room.new.mark_list within c.index_mut.ensures.value
-          c.in_err-make_room.ensures.kept);
+          (kept_set c.loop-n.mark_lists.items c.loop-n.n c.index_mut.result.now c.reserve_marks.new.mark_list within c.index_mut.ensures.value
+          c.in_err-reserve_marks.ensures.kept);
       ok = IfOk-from_err c.from_residual.result _ c.from_residual.ensures.0;
     }
 

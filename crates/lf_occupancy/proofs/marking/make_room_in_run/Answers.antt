@@ -13,8 +13,8 @@ loop-n-preserved c =
     let within : c.loop-n.n < length c.loop-n.mark_lists.items = omega (arith, bound, test, same) in
     record {
       kept = kept_along c.args.mark_lists.now.items c.loop-n.mark_lists.items _ c.loop-n.invariant.kept
-          (kept_set c.loop-n.mark_lists.items c.loop-n.n c.index_mut.result.now c.make_room.new.mark_list within c.index_mut.ensures.value
-          c.in_ok-make_room.ensures.kept);
+          (kept_set c.loop-n.mark_lists.items c.loop-n.n c.index_mut.result.now c.reserve_marks.new.mark_list within c.index_mut.ensures.value
+          c.in_ok-reserve_marks.ensures.kept);
       room = room_further 1 c.args.near.now.start c.loop-n.n c.args.near.now.end c.loop-n.mark_lists.items c.index_mut.result.now
-          c.make_room.new.mark_list within c.index_mut.ensures.value c.in_ok-make_room.ensures.ok c.loop-n.invariant.room;
+          c.reserve_marks.new.mark_list within c.index_mut.ensures.value c.in_ok-reserve_marks.ensures.ok c.loop-n.invariant.room;
     }

@@ -20,10 +20,10 @@ one_move (m ∷ n ∷ ms) next one is = absurd (omega (arith, one))
 pub returns-then-moves-eq1-clause-ok : goal.returns-then-moves-eq1-clause-ok
 returns-then-moves-eq1-clause-ok c =
     let team = c.args.team in
-    subst (λ (moves : List Move). OnOk c.make_room_for.result
-    (FitIn (with_boxes c.make_room_for.new.occupancy (boxes_in c.args.sized.now.frame.now c.args.sized.now.cells.now)) team
+    subst (λ (moves : List Move). OnOk c.reserve_cells.result
+    (FitIn (with_boxes c.reserve_cells.new.occupancy (boxes_in c.args.sized.now.frame.now c.args.sized.now.cells.now)) team
     (map (working_box_of c.args.sized.now.frame.now) (moves_applied moves (cells_of c.args.sized.now.cells.now team)))))
-    (one_move c.args.moves.now c.index-moves-0.result (omega arith) c.index-moves-0.is) c.make_room_for.ensures.ok
+    (one_move c.args.moves.now c.index-moves-0.result (omega arith) c.index-moves-0.is) c.reserve_cells.ensures.ok
 
 pub returns-clause-ok : goal.returns-clause-ok
 returns-clause-ok c =

@@ -11,8 +11,8 @@ loop-team-init c =
     let f = c.args.sized.now.frame.now in
     let cells = c.args.sized.now.cells.now in
     let m = c.args.occupancy.now in
-    let tally = c.in_ok-tally.tally in
-    let are = c.in_ok-tally.ensures {u = tt} in
+    let tally = c.in_ok-counts.tally in
+    let are = c.in_ok-counts.ensures {u = tt} in
     record {
       half = record {
         done = λ t less. absurd (omega (arith, less));
@@ -31,8 +31,8 @@ loop-team-preserved c =
     let team = c.loop-team.team in
     let half = c.loop-team.invariant.half in
     record {
-      half = team_next c.args.sized.now.frame.now c.args.sized.now.cells.now (with_boxes c.loop-team.occupancy []) (with_boxes c.fit_team.new.occupancy []) team c.loop-team.tally
-          c.fit_team.new.tally half (c.in_ok-fit_team.ensures.own (half.rest team (omega arith))) c.in_ok-fit_team.ensures.others;
+      half = team_next c.args.sized.now.frame.now c.args.sized.now.cells.now (with_boxes c.loop-team.occupancy []) (with_boxes c.fit_team.new.occupancy []) team c.loop-team.counts
+          c.fit_team.new.counts half (c.in_ok-fit_team.ensures.own (half.rest team (omega arith))) c.in_ok-fit_team.ensures.others;
       gains = gains_through c.args.occupancy.now c.loop-team.occupancy c.fit_team.new.occupancy c.loop-team.invariant.gains c.in_ok-fit_team.ensures.gains;
       room = c.in_ok-fit_team.ensures.room;
     }
@@ -43,7 +43,7 @@ returns-clause-fits c = λ team.
     let cells = c.args.sized.now.cells.now in
     let own = cells_of cells team in
     let held = with_boxes c.loop-team.occupancy [] in
-    let tally = c.loop-team.tally in
+    let tally = c.loop-team.counts in
     bounds_fit held team (boxes_at f own (committed_of own)) tally c.loop-team.invariant.room
     (all_committed f cells c.cell_ids.result.now c.team_count-team-end.result c.loop-team.team held tally c.cell_ids.ensures c.team_count-team-end.ensures
     c.loop-team-test.false c.loop-team.invariant.half team)

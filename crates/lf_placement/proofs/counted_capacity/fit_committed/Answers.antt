@@ -16,7 +16,7 @@ returns-then-same_place-clause-own c = λ places is bounds.
     let alike : working_at cells id.own ≡ committed_at cells id.own =
     sym c.working-from.ensures ∙ c.if-same_place.ensures.0 refl ∙ c.committed-to.ensures in
     let there : slice_get places id.own ≡ Some (committed_at cells id.own) = is ∙ ap (λ (p : Option Place). Some p) alike in
-    subst (λ (ps : Places). Bounds (with_boxes c.args.occupancy.now []) id.team (boxes_at c.args.sized.now.frame.now cells ps) c.args.tally.now)
+    subst (λ (ps : Places). Bounds (with_boxes c.args.occupancy.now []) id.team (boxes_at c.args.sized.now.frame.now cells ps) c.args.counts.now)
     (sym (put_same places id.own (committed_at cells id.own) there)) bounds
 
 pub returns-clause-own : goal.returns-clause-own
@@ -28,6 +28,6 @@ returns-clause-own c = λ places is bounds.
     subst
     (λ (p : Option Place).
     OnOk c.reserve_change.result
-    (Bounds (with_boxes c.reserve_change.new.occupancy []) id.team (boxes_at c.args.sized.now.frame.now cells (set places id.own p)) c.reserve_change.new.tally))
+    (Bounds (with_boxes c.reserve_change.new.occupancy []) id.team (boxes_at c.args.sized.now.frame.now cells (set places id.own p)) c.reserve_change.new.counts))
     to
     (c.reserve_change.ensures.own places (is ∙ ap (λ (p : Option Place). Some p) (sym from)) bounds)

@@ -27,8 +27,8 @@ loop-id-preserved c =
     let i = c.loop-id.id-index in
     let old = with_boxes c.loop-id.occupancy [] in
     let new = with_boxes c.fit_committed.new.occupancy [] in
-    let tally = c.loop-id.tally in
-    let then = c.fit_committed.new.tally in
+    let tally = c.loop-id.counts in
+    let then = c.fit_committed.new.counts in
     let ids = c.cells_of-id-items.result.now in
     let many = ids_long team cells ids c.cells_of-id-items.ensures in
     let within : i < length cells = omega (arith, c.loop-id-test.true, many) in
@@ -59,5 +59,5 @@ pub returns-clause-own : goal.returns-clause-own
 returns-clause-own c = λ b.
     let cells = cells_of c.args.sized.now.cells.now c.args.team in
     let many = ids_long c.args.team cells c.cells_of-id-items.result.now c.cells_of-id-items.ensures in
-    subst (λ (ps : Places). Bounds (with_boxes c.loop-id.occupancy []) c.args.team (boxes_at c.args.sized.now.frame.now cells ps) c.loop-id.tally)
+    subst (λ (ps : Places). Bounds (with_boxes c.loop-id.occupancy []) c.args.team (boxes_at c.args.sized.now.frame.now cells ps) c.loop-id.counts)
     (half_all c.loop-id.id-index cells (omega (arith, c.loop-id-test.false, many))) (c.loop-id.invariant.own b)

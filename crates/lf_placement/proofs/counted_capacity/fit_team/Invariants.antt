@@ -11,10 +11,10 @@ use Rattle.lf_placement.proofs.counted_capacity.fit_team.Given as goal
 -- the cells visited are counted at their committed places
 abbrev pub invariant-loop-id : goal.invariant-loop-id
 invariant-loop-id l = record {
-  own : Bounds (with_boxes l.fn.occupancy []) l.team (boxes_at l.sized.frame.now (cells_of l.sized.cells.now l.team) (working_places_of (cells_of l.sized.cells.now l.team))) l.fn.tally
-      → Bounds (with_boxes l.occupancy []) l.team (boxes_at l.sized.frame.now (cells_of l.sized.cells.now l.team) (half_committed l.id-index (cells_of l.sized.cells.now l.team))) l.tally;
-  others : (boxes : List (Option Rect)) (other : ℕ) → other ≢ l.team → Bounds (with_boxes l.fn.occupancy []) other boxes l.fn.tally
-      → Bounds (with_boxes l.occupancy []) other boxes l.tally;
+  own : Bounds (with_boxes l.fn.occupancy []) l.team (boxes_at l.sized.frame.now (cells_of l.sized.cells.now l.team) (working_places_of (cells_of l.sized.cells.now l.team))) l.fn.counts
+      → Bounds (with_boxes l.occupancy []) l.team (boxes_at l.sized.frame.now (cells_of l.sized.cells.now l.team) (half_committed l.id-index (cells_of l.sized.cells.now l.team))) l.counts;
+  others : (boxes : List (Option Rect)) (other : ℕ) → other ≢ l.team → Bounds (with_boxes l.fn.occupancy []) other boxes l.fn.counts
+      → Bounds (with_boxes l.occupancy []) other boxes l.counts;
   gains : KeepsMarks l.fn.occupancy l.occupancy;
-  room : KeepsCapacities l.tally (capacities_in l.occupancy.mark_lists);
+  room : KeepsCapacities l.counts (capacities_in l.occupancy.mark_lists);
 }

@@ -16,7 +16,7 @@ returns-clause-own c = λ places is bounds.
     let boxes = boxes_at f cells places in
     let from = c.boxes_of_change-from.ensures.from in
     let to = c.boxes_of_change-from.ensures.to in
-    subst (λ (bs : List (Option Rect)). OnOk c.reserve_counted.result (Bounds (with_boxes c.reserve_counted.new.self []) c.args.team bs c.reserve_counted.new.tally))
+    subst (λ (bs : List (Option Rect)). OnOk c.reserve_counted.result (Bounds (with_boxes c.reserve_counted.new.self []) c.args.team bs c.reserve_counted.new.counts))
     (ap (set boxes change.own) to ∙ box_put_at f cells places change.own change.to (within_places places change.own change.from is))
     (c.reserve_counted.ensures.own boxes change.own (place_box f cells places change.own change.from is ∙ sym from) bounds)
 

@@ -31,7 +31,7 @@ loop-at-preserved c =
           ∙ back_less c.loop-at.places moves n m within c.index-moves-at.is
           ∙ ap (λ (k : ℕ). moves_taken_back (take k moves) c.loop-at.places) more
           ∙ c.loop-at.invariant.left;
-      many = ap (λ (ps : Places). length ps) put ∙ length-set c.loop-at.places m.own m.old ∙ c.loop-at.invariant.many;
+      many = ap (λ (ps : Places). length ps) put ∙ length-set c.loop-at.places m.own m.place ∙ c.loop-at.invariant.many;
       room = c.in_ok-reserve_move_undo.ensures.room;
       bounds = c.in_ok-reserve_move_undo.ensures.bounds;
       others = λ at other differ b. c.in_ok-reserve_move_undo.ensures.others at other differ (c.loop-at.invariant.others at other differ b);

@@ -9,8 +9,8 @@ abbrev pub invariant-loop-at : goal.invariant-loop-at
 invariant-loop-at l = record {
   left : moves_taken_back (take l.at l.moves) l.places ≡ moves_taken_back l.fn.moves l.fn.places;
   many : length l.places ≡ length l.fn.places;
-  room : KeepsCapacities l.tally l.placement.held.rooms;
-  bounds : BoundsAt l.placement l.team l.places l.tally;
-  others : (at : Places) (other : ℕ) → other ≢ l.team → BoundsAt l.fn.placement other at l.fn.tally → BoundsAt l.placement other at l.tally;
+  room : KeepsCapacities l.counts l.placement.held.rooms;
+  bounds : BoundsAt l.placement l.team l.places l.counts;
+  others : (at : Places) (other : ℕ) → other ≢ l.team → BoundsAt l.fn.placement other at l.fn.counts → BoundsAt l.placement other at l.counts;
   same : SameButRooms l.fn.placement l.placement;
 }

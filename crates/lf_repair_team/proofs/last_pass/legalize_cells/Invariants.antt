@@ -8,13 +8,13 @@ use Rattle.lf_repair_team.proofs.last_pass.legalize_cells.Given as goal
 
 abbrev pub invariant-loop-own : goal.invariant-loop-own
 invariant-loop-own g l = record {
-  run : (lz : Legalizer) → IsWrittenRun lz l.seat.team.now l.fn.floor (g.K.Sink.contents l.fn.lines) (g.K.Sink.contents l.lines) l.floor;
-  only : ChangesOnly l.seat.team.now l.fn.floor l.floor;
-  legal : KeepsLegalCells l.seat.team.now l.fn.floor l.floor;
-  flagged : KeepsLockedPlaces l.seat.team.now l.seat.impossible.now l.fn.floor l.floor;
-  committed : KeepsCommittedAndSettings l.seat.team.now l.seat.session l.fn.floor l.floor;
-  all : All (λ own. IsLegalOrUnplaced l.floor l.seat.team.now own) l.cells;
-  done : All (λ own. IsLegalOrWithoutPlace l.search.reach l.targets l.floor l.seat.team.now own) (take l.own-index l.cells);
-  off_soft : MovesOffSoft l.seat.team.now l.fn.floor l.floor;
-  within : KeepsWithin l.search.reach l.targets l.seat.team.now l.fn.floor l.floor;
+  run : (lz : Legalizer) → IsWrittenRun lz l.session.team.now l.fn.floor (g.K.Sink.contents l.fn.lines) (g.K.Sink.contents l.lines) l.floor;
+  only : ChangesOnly l.session.team.now l.fn.floor l.floor;
+  legal : KeepsLegalCells l.session.team.now l.fn.floor l.floor;
+  flagged : KeepsLockedPlaces l.session.team.now l.session.impossible.now l.fn.floor l.floor;
+  committed : KeepsCommittedAndSettings l.session.team.now l.session.session l.fn.floor l.floor;
+  all : All (λ own. IsLegalOrUnplaced l.floor l.session.team.now own) l.cells;
+  done : All (λ own. IsLegalOrWithoutPlace l.search.reach l.targets l.floor l.session.team.now own) (take l.own-index l.cells);
+  off_soft : MovesOffSoft l.session.team.now l.fn.floor l.floor;
+  within : KeepsWithin l.search.reach l.targets l.session.team.now l.fn.floor l.floor;
 }

@@ -7,10 +7,10 @@ use Rattle.lf_repair_team.proofs.misplaced_pass.run_misplaced_pass.Given as goal
 
 abbrev pub invariant-loop-own : goal.invariant-loop-own
 invariant-loop-own g l = record {
-  run : (lz : Legalizer) → IsWrittenRun lz l.seat.team.now l.fn.floor (g.K.Sink.contents l.fn.lines) (g.K.Sink.contents l.lines) l.floor;
-  only : ChangesOnly l.seat.team.now l.fn.floor l.floor;
-  committed : KeepsCommittedAndSettings l.seat.team.now l.seat.session l.fn.floor l.floor;
-  targets : KeepsCellsAtTargets l.seat.team.now l.targets l.fn.floor l.floor;
-  settled : (own : ℕ) → own < l.own → IsAtTargetOrOffSoft l.seat.team.now l.targets l.floor own;
-  within : (own : ℕ) → own < l.own → IsWithin l.search.reach l.targets l.floor l.seat.team.now own;
+  run : (lz : Legalizer) → IsWrittenRun lz l.session.team.now l.fn.floor (g.K.Sink.contents l.fn.lines) (g.K.Sink.contents l.lines) l.floor;
+  only : ChangesOnly l.session.team.now l.fn.floor l.floor;
+  committed : KeepsCommittedAndSettings l.session.team.now l.session.session l.fn.floor l.floor;
+  targets : KeepsCellsAtTargets l.session.team.now l.targets l.fn.floor l.floor;
+  settled : (own : ℕ) → own < l.own → IsAtTargetOrOffSoft l.session.team.now l.targets l.floor own;
+  within : (own : ℕ) → own < l.own → IsWithin l.search.reach l.targets l.floor l.session.team.now own;
 }

@@ -6,17 +6,17 @@ use Rattle.lf_repair_team.proofs.Runs.{nothing, unchanged}
 use Rattle.lf_repair_team.proofs.misplaced_pass.unplace_if_misplaced.Goals as goal
 
 pub returns-then-not-is_misplaced-clause-run : goal.returns-then-not-is_misplaced-clause-run
-returns-then-not-is_misplaced-clause-run g c = λ l. nothing l c.args.seat.now.team.now c.args.floor.now (g.K.Sink.contents c.args.lines.now)
+returns-then-not-is_misplaced-clause-run g c = λ l. nothing l c.args.session.now.team.now c.args.floor.now (g.K.Sink.contents c.args.lines.now)
 
 pub returns-then-not-is_misplaced-clause-only : goal.returns-then-not-is_misplaced-clause-only
-returns-then-not-is_misplaced-clause-only g c = unchanged c.args.seat.now.team.now c.args.floor.now
+returns-then-not-is_misplaced-clause-only g c = unchanged c.args.session.now.team.now c.args.floor.now
 
 pub returns-then-not-is_misplaced-clause-targets : goal.returns-then-not-is_misplaced-clause-targets
-returns-then-not-is_misplaced-clause-targets g c = none_leaves_target c.args.seat.now.team.now c.args.targets.now c.args.floor.now
+returns-then-not-is_misplaced-clause-targets g c = none_leaves_target c.args.session.now.team.now c.args.targets.now c.args.floor.now
 
 pub returns-clause-targets : goal.returns-clause-targets
 returns-clause-targets g c =
-    targets_beside c.args.seat.now.team.now c.args.targets.now c.args.floor.now c.unplace_cell.new.floor c.args.own c.unplace_cell.ensures.only.macros
+    targets_beside c.args.session.now.team.now c.args.targets.now c.args.floor.now c.unplace_cell.new.floor c.args.own c.unplace_cell.ensures.only.macros
     (λ s there. c.is_misplaced.ensures.moved s there c.if-not-is_misplaced.false) c.unplace_cell.ensures.cells c.unplace_cell.ensures.legal
 
 pub returns-clause-settled : goal.returns-clause-settled
@@ -24,5 +24,5 @@ returns-clause-settled g c = on_ok_weaker c.unplace_cell.result (λ none. inr (i
 
 pub returns-clause-within : goal.returns-clause-within
 returns-clause-within g c =
-    on_ok_weaker c.unplace_cell.result (λ none. unplaced_is_within c.args.search.now.reach c.args.targets.now c.args.seat.now.team.now c.unplace_cell.new.floor c.args.own none)
+    on_ok_weaker c.unplace_cell.result (λ none. unplaced_is_within c.args.search.now.reach c.args.targets.now c.args.session.now.team.now c.unplace_cell.new.floor c.args.own none)
     c.unplace_cell.ensures.unplaced

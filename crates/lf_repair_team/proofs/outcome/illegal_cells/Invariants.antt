@@ -7,7 +7,7 @@ use Rattle.lf_repair_team.proofs.outcome.illegal_cells.Given as goal
 
 abbrev pub invariant-loop-id : goal.invariant-loop-id
 invariant-loop-id g l = record {
-  named : AreNamedTo (IsLegalIfKnown l.seat.team.now l.floor) l.id-index l.left.items;
-  illegal : All (λ (own : ℕ). IsIllegalIn l.floor l.seat.team.now own) l.left.items;
+  named : AreNamedTo (IsLegalIfKnown l.session.team.now l.floor) l.id-index l.left.items;
+  illegal : All (λ (own : ℕ). IsIllegalIn l.floor l.session.team.now own) l.left.items;
   rise : RisesTo l.id-index l.left.items;
 }

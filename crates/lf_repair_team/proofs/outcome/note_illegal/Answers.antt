@@ -5,8 +5,8 @@ use Rattle.lf_repair_team.proofs.outcome.note_illegal.Goals as goal
 pub returns-then-is_cell_legal : goal.returns-then-is_cell_legal
 returns-then-is_cell_legal g c =
     let floor = c.args.floor.now in
-    let team = c.args.seat.now.team.now in
-    let number = c.args.seat.now.number in
+    let team = c.args.session.now.team.now in
+    let number = c.args.session.now.number in
     inl (
       refl,
       λ s there within. reported_legal team floor number c.args.id.own s c.requires there within
@@ -19,8 +19,8 @@ false_true e = cc
 pub returns : goal.returns
 returns g c =
     let floor = c.args.floor.now in
-    let team = c.args.seat.now.team.now in
-    let number = c.args.seat.now.number in
+    let team = c.args.session.now.team.now in
+    let number = c.args.session.now.number in
     inr (
       c.in_ok-push.ensures.items,
       λ legal. false_true (sym c.if-is_cell_legal.false ∙ legal_is_reported team floor number c.args.id.own (c.is_cell_legal.result ≡ true) c.requires c.is_cell_legal.ensures.reported legal),

@@ -19,9 +19,9 @@ so_if_not false is = absurd cc
 pub returns-in-Some-2-clause-near : goal.returns-in-Some-2-clause-near
 returns-in-Some-2-clause-near g c = λ yes.
     let floor = c.args.floor.now in
-    let number = c.args.seat.now.number in
+    let number = c.args.session.now.number in
     let target_is = sym c.target_place.ensures ∙ c.in-Some-target_place.is in
-    best_within c.args.search.now.reach c.args.targets.now floor c.args.seat.now.team.now number c.args.own c.requires.number c.in-Some-target_place.old target_is c.args.target.now
+    best_within c.args.search.now.reach c.args.targets.now floor c.args.session.now.team.now number c.args.own c.requires.number c.in-Some-target_place.old target_is c.args.target.now
     (c.requires.target c.in-Some-target_place.old target_is) c.in-Some-2.best
     (λ s cell at is. subst (λ (o : Option Place). IsChoice (query_from floor.frame number s.padding (map member_of s.cells) c.args.own cell.mac) c.args.target.now (option_map spot_of o))
     c.in-Some-2.is (c.in_ok-best.ensures s cell at is))
@@ -30,20 +30,20 @@ returns-in-Some-2-clause-near g c = λ yes.
 pub returns-in-Some-2-clause-none : goal.returns-in-Some-2-clause-none
 returns-in-Some-2-clause-none g c = λ s cell there is unplaced no.
     let floor = c.args.floor.now in
-    let number = c.args.seat.now.number in
+    let number = c.args.session.now.number in
     let target_is = sym c.target_place.ensures ∙ c.in-Some-target_place.is in
-    best_beyond c.args.search.now.reach c.args.targets.now floor c.args.seat.now.team.now number c.args.own c.requires.number c.in-Some-target_place.old target_is c.args.target.now
+    best_beyond c.args.search.now.reach c.args.targets.now floor c.args.session.now.team.now number c.args.own c.requires.number c.in-Some-target_place.old target_is c.args.target.now
     (c.requires.target c.in-Some-target_place.old target_is) s cell there is unplaced c.in-Some-2.best
     (subst (λ (o : Option Place). IsChoice (query_from floor.frame number s.padding (map member_of s.cells) c.args.own cell.mac) c.args.target.now (option_map spot_of o))
-    c.in-Some-2.is (c.in_ok-best.ensures s cell (state_there floor c.args.seat.now.team.now number s c.requires.number there) is))
+    c.in-Some-2.is (c.in_ok-best.ensures s cell (state_there floor c.args.session.now.team.now number s c.requires.number there) is))
     (c.is_beyond.ensures.0 (so_if_not c.is_beyond.result no))
 
 pub returns-in-None-2-clause-none : goal.returns-in-None-2-clause-none
 returns-in-None-2-clause-none g c = λ s cell there is unplaced no.
     let floor = c.args.floor.now in
-    let number = c.args.seat.now.number in
+    let number = c.args.session.now.number in
     let target_is = sym c.target_place.ensures ∙ c.in-Some-target_place.is in
-    none_found c.args.search.now.reach c.args.targets.now floor c.args.seat.now.team.now number c.args.own c.requires.number c.in-Some-target_place.old target_is c.args.target.now
+    none_found c.args.search.now.reach c.args.targets.now floor c.args.session.now.team.now number c.args.own c.requires.number c.in-Some-target_place.old target_is c.args.target.now
     (c.requires.target c.in-Some-target_place.old target_is) s cell there is unplaced
     (subst (λ (o : Option Place). IsChoice (query_from floor.frame number s.padding (map member_of s.cells) c.args.own cell.mac) c.args.target.now (option_map spot_of o))
-    c.in-None-2.is (c.in_ok-best.ensures s cell (state_there floor c.args.seat.now.team.now number s c.requires.number there) is))
+    c.in-None-2.is (c.in_ok-best.ensures s cell (state_there floor c.args.session.now.team.now number s c.requires.number there) is))

@@ -12,31 +12,31 @@ use Rattle.lf_repair_team.proofs.session.close.Goals as goal
 
 pub returns-in-Ok-clause-run : goal.returns-in-Ok-clause-run
 returns-in-Ok-clause-run g c = λ l.
-    let team = c.args.seat.now.team.now in
+    let team = c.args.session.now.team.now in
     ok_from c.continue_unless_out_of_memory.result (IsWrittenRun l team c.args.floor.now (g.K.Sink.contents c.args.lines.now) (g.K.Sink.contents c.run_action.new.lines) c.run_action.new.floor)
     (c.in-Ok.ensures.run l)
 
 pub returns-in-Ok-clause-err : goal.returns-in-Ok-clause-err
 returns-in-Ok-clause-err g c = λ l.
-    let team = c.args.seat.now.team.now in
+    let team = c.args.session.now.team.now in
     err_from c.continue_unless_out_of_memory.result (IsRunWithCutLine l team c.args.floor.now (g.K.Sink.contents c.args.lines.now) (g.K.Sink.contents c.run_action.new.lines) c.run_action.new.floor)
     (uncut l team c.args.floor.now c.run_action.new.floor (g.K.Sink.contents c.args.lines.now) (g.K.Sink.contents c.run_action.new.lines)
     (c.in-Ok.ensures.run l))
 
 pub returns-in-Ok-clause-cells : goal.returns-in-Ok-clause-cells
 returns-in-Ok-clause-cells g c =
-    look_same c.legalizer_exists.ensures c.args.floor.now c.run_action.new.floor c.args.seat.now.team.now (Within c.args.seat.now.session Close) c.query_keeps_state.ensures refl
+    look_same c.legalizer_exists.ensures c.args.floor.now c.run_action.new.floor c.args.session.now.team.now (Within c.args.session.now.session Close) c.query_keeps_state.ensures refl
     (c.in-Ok.ensures.requested c.legalizer_exists.ensures)
 
 pub returns-in-Err-clause-cells : goal.returns-in-Err-clause-cells
 returns-in-Err-clause-cells g c =
-    look_same c.legalizer_exists.ensures c.args.floor.now c.run_action.new.floor c.args.seat.now.team.now (Within c.args.seat.now.session Close) c.query_keeps_state.ensures refl
+    look_same c.legalizer_exists.ensures c.args.floor.now c.run_action.new.floor c.args.session.now.team.now (Within c.args.session.now.session Close) c.query_keeps_state.ensures refl
     (c.in-Err.ensures.requested c.legalizer_exists.ensures)
 
 pub returns-in-Ok-clause-settings : goal.returns-in-Ok-clause-settings
 returns-in-Ok-clause-settings g c =
     let l = c.legalizer_exists.ensures in
-    let team = c.args.seat.now.team.now in
-    let session = c.args.seat.now.session in
+    let team = c.args.session.now.team.now in
+    let session = c.args.session.now.session in
     on_ok_from c.continue_unless_out_of_memory.result (settings_in c.run_action.new.floor team ≡ settings_without session c.args.floor.now team)
     (close_frees l c.args.floor.now c.run_action.new.floor team session c.in-Ok.reply (c.in-Ok.ensures.replied l))

@@ -15,9 +15,9 @@ means_of-stats-requires g c = c.count_cells-stats.ensures.tally.total_displaceme
 pub returns-clause-tally : goal.returns-clause-tally
 returns-clause-tally g c = λ s at.
     let reported = record c.count_cells-stats.result { means = c.means_of-stats.result } in
-    let marks = c.args.start.now.legal.items in
+    let marks = c.args.input.now.legal.items in
     let cells = cells_of c.placement-placement.result.now.cells c.args.number in
-    subst (λ (cs : List Cell). AreStatsOfFirst c.args.start.now.pass.targets.items marks cs (length cs) reported) (c.placement-placement.ensures.cells c.args.number s at)
+    subst (λ (cs : List Cell). AreStatsOfFirst c.args.input.now.pass.targets.items marks cs (length cs) reported) (c.placement-placement.ensures.cells c.args.number s at)
     (subst (λ (targets : List (Option Place)). AreStatsOfFirst targets marks cells (length cells) reported) c.as_slice-targets.ensures.value
     (subst (λ (ms : List Bool). AreStatsOfFirst c.as_slice-targets.result.now ms cells (length cells) reported) c.as_slice.ensures.value
     (tally_with_means c.as_slice-targets.result.now c.as_slice.result.now cells (length cells) c.count_cells-stats.result c.means_of-stats.result c.count_cells-stats.ensures.tally)))

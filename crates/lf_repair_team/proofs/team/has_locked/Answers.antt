@@ -11,16 +11,16 @@ false_true e = cc
 
 pub loop-own-init : goal.loop-own-init
 loop-own-init c =
-    All-same (λ own. IsFlagged c.args.start.now.pass.locked.items own → ⊥) (take 0 c.args.cells.now) [] (none_taken c.args.cells.now)
-    (All-nil (λ own. IsFlagged c.args.start.now.pass.locked.items own → ⊥))
+    All-same (λ own. IsFlagged c.args.input.now.pass.locked.items own → ⊥) (take 0 c.args.cells.now) [] (none_taken c.args.cells.now)
+    (All-nil (λ own. IsFlagged c.args.input.now.pass.locked.items own → ⊥))
 
 pub loop-own-preserved : goal.loop-own-preserved
 loop-own-preserved c =
     let own = get_or c.args.cells.now c.loop-own.own-index 0 in
-    All-more (λ own. IsFlagged c.args.start.now.pass.locked.items own → ⊥) c.args.cells.now c.loop-own.own-index 0 c.loop-own-test.true c.loop-own.invariant
+    All-more (λ own. IsFlagged c.args.input.now.pass.locked.items own → ⊥) c.args.cells.now c.loop-own.own-index 0 c.loop-own-test.true c.loop-own.invariant
     (λ flag. false_true (sym c.if-is_locked.false ∙ c.is_locked.ensures.1 (subst (λ (marks : List Bool). slice_get marks own ≡ Some true) (sym c.as_slice.ensures.value) flag)))
 
 pub returns : goal.returns
 returns c = λ e.
-    subst (λ (xs : List ℕ). NoneIsFlagged c.args.start.now.pass.locked.items xs) (take_all c.loop-own.own-index c.args.cells.now (omega (arith, c.loop-own-test.false)))
+    subst (λ (xs : List ℕ). NoneIsFlagged c.args.input.now.pass.locked.items xs) (take_all c.loop-own.own-index c.args.cells.now (omega (arith, c.loop-own-test.false)))
     c.loop-own.invariant

@@ -40,13 +40,13 @@ returns-clause-err g c = λ l.
 
 pub returns-in-Err-run_passes-clause-marked : goal.returns-in-Err-run_passes-clause-marked
 returns-in-Err-run_passes-clause-marked g c = λ keep.
-    locked_in_session c.args.team.now c.args.start.now.pass.locked.items c.args.start.now.pass.targets.items c.args.floor.now c.open.new.floor c.run_passes.new.floor c.in-Ok.ensures.only.frame c.in-Ok.ensures.cells
+    locked_in_session c.args.team.now c.args.input.now.pass.locked.items c.args.input.now.pass.targets.items c.args.floor.now c.open.new.floor c.run_passes.new.floor c.in-Ok.ensures.only.frame c.in-Ok.ensures.cells
     (c.in-Err-run_passes.ensures.marked keep)
 
 pub returns-clause-marked : goal.returns-clause-marked
 returns-clause-marked g c = λ keep locked own mark.
     c.finish.ensures.places own
-    ∙ locked_in_session c.args.team.now c.args.start.now.pass.locked.items c.args.start.now.pass.targets.items c.args.floor.now c.open.new.floor c.run_passes.new.floor c.in-Ok.ensures.only.frame c.in-Ok.ensures.cells
+    ∙ locked_in_session c.args.team.now c.args.input.now.pass.locked.items c.args.input.now.pass.targets.items c.args.floor.now c.open.new.floor c.run_passes.new.floor c.in-Ok.ensures.only.frame c.in-Ok.ensures.cells
     (c.in-Ok-run_passes.ensures.marked keep) locked own mark
 
 pub returns-clause-changed : goal.returns-clause-changed
@@ -77,21 +77,21 @@ returns-clause-settings g c =
 
 pub returns-clause-off_soft : goal.returns-clause-off_soft
 returns-clause-off_soft g c =
-    on_ok_from c.finish.result (AreAtTargetsOrOffSoft c.args.team.now c.args.start.now.pass.targets.items c.finish.new.floor)
-    (targets_stay c.args.team.now c.run_passes.new.floor c.finish.new.floor c.finish.ensures.only c.args.start.now.pass.targets.items
+    on_ok_from c.finish.result (AreAtTargetsOrOffSoft c.args.team.now c.args.input.now.pass.targets.items c.finish.new.floor)
+    (targets_stay c.args.team.now c.run_passes.new.floor c.finish.new.floor c.finish.ensures.only c.args.input.now.pass.targets.items
     c.finish.ensures.places c.in-Ok-run_passes.ensures.settled.off_soft)
 
 pub returns-in-Err-run_passes-clause-unmoved : goal.returns-in-Err-run_passes-clause-unmoved
 returns-in-Err-run_passes-clause-unmoved g c =
-    flagged_in_session c.args.team.now c.args.start.now.pass.impossible.items c.args.start.now.pass.targets.items c.args.floor.now c.open.new.floor c.run_passes.new.floor c.in-Ok.ensures.cells
-    (subst (λ (flags : List Bool). AreFlaggedAtTargets c.args.team.now flags c.args.start.now.pass.targets.items c.open.new.floor → KeepsLockedPlaces c.args.team.now flags c.open.new.floor c.run_passes.new.floor)
+    flagged_in_session c.args.team.now c.args.input.now.pass.impossible.items c.args.input.now.pass.targets.items c.args.floor.now c.open.new.floor c.run_passes.new.floor c.in-Ok.ensures.cells
+    (subst (λ (flags : List Bool). AreFlaggedAtTargets c.args.team.now flags c.args.input.now.pass.targets.items c.open.new.floor → KeepsLockedPlaces c.args.team.now flags c.open.new.floor c.run_passes.new.floor)
     c.as_slice.ensures.value c.in-Err-run_passes.ensures.unmoved)
 
 pub returns-clause-unmoved : goal.returns-clause-unmoved
 returns-clause-unmoved g c = λ at own flag.
     c.finish.ensures.places own
-    ∙ flagged_in_session c.args.team.now c.args.start.now.pass.impossible.items c.args.start.now.pass.targets.items c.args.floor.now c.open.new.floor c.run_passes.new.floor c.in-Ok.ensures.cells
-    (subst (λ (flags : List Bool). AreFlaggedAtTargets c.args.team.now flags c.args.start.now.pass.targets.items c.open.new.floor → KeepsLockedPlaces c.args.team.now flags c.open.new.floor c.run_passes.new.floor)
+    ∙ flagged_in_session c.args.team.now c.args.input.now.pass.impossible.items c.args.input.now.pass.targets.items c.args.floor.now c.open.new.floor c.run_passes.new.floor c.in-Ok.ensures.cells
+    (subst (λ (flags : List Bool). AreFlaggedAtTargets c.args.team.now flags c.args.input.now.pass.targets.items c.open.new.floor → KeepsLockedPlaces c.args.team.now flags c.open.new.floor c.run_passes.new.floor)
     c.as_slice.ensures.value c.in-Ok-run_passes.ensures.unmoved) at own flag
 
 pub returns-in-Err-clause-unmoved : goal.returns-in-Err-clause-unmoved
@@ -101,24 +101,24 @@ pub returns-clause-unrepaired : goal.returns-clause-unrepaired
 returns-clause-unrepaired g c =
     let team = c.args.team.now in
     let reach = c.args.search.now.reach in
-    let targets = c.args.start.now.pass.targets.items in
-    let flags = c.args.start.now.pass.impossible.items in
+    let targets = c.args.input.now.pass.targets.items in
+    let flags = c.args.input.now.pass.impossible.items in
     let same = c.as_slice-targets.ensures.value in
     subst (λ (places : List (Option Place)). IfOk c.finish.result (λ found. AreUnrepaired reach places team flags c.finish.new.floor found.left.items)) same
     (subst (λ (fs : List Bool). IfOk c.finish.result (λ found. AreUnrepaired reach c.as_slice-targets.result.now team fs c.finish.new.floor found.left.items)) c.as_slice.ensures.value
-    (c.finish.ensures.unrepaired reach (subst (λ (places : List (Option Place)). AreUnrepaired reach places team c.as_slice.result.now c.run_passes.new.floor c.in-Ok-run_passes.left.items) (sym same)
+    (c.finish.ensures.unrepaired reach (subst (λ (places : List (Option Place)). AreUnrepaired reach places team c.as_slice.result.now c.run_passes.new.floor c.in-Ok-run_passes.unrepaired.items) (sym same)
     c.in-Ok-run_passes.ensures.settled.unrepaired)))
 
 pub returns-clause-within : goal.returns-clause-within
 returns-clause-within g c =
-    on_ok_from c.finish.result (AreWithin c.args.search.now.reach c.args.start.now.pass.targets.items c.args.team.now c.finish.new.floor)
-    (reach_stays c.args.search.now.reach c.args.start.now.pass.targets.items c.args.team.now c.run_passes.new.floor c.finish.new.floor c.finish.ensures.places
+    on_ok_from c.finish.result (AreWithin c.args.search.now.reach c.args.input.now.pass.targets.items c.args.team.now c.finish.new.floor)
+    (reach_stays c.args.search.now.reach c.args.input.now.pass.targets.items c.args.team.now c.run_passes.new.floor c.finish.new.floor c.finish.ensures.places
     c.in-Ok-run_passes.ensures.settled.within)
 
 pub returns-clause-free : goal.returns-clause-free
 returns-clause-free g c = λ locked.
-    let marks = c.args.start.now.pass.locked.items in
-    ok_weaker c.finish.result (λ found. found.left.items ≡ c.in-Ok-run_passes.left.items) (λ found. NoneIsFlagged marks found.left.items)
+    let marks = c.args.input.now.pass.locked.items in
+    ok_weaker c.finish.result (λ found. found.left.items ≡ c.in-Ok-run_passes.unrepaired.items) (λ found. NoneIsFlagged marks found.left.items)
     (λ found same. subst (λ (xs : List ℕ). NoneIsFlagged marks xs) (sym same)
-    (c.in-Ok-run_passes.ensures.free (locked_opened c.args.team.now marks c.args.start.now.pass.targets.items c.args.floor.now c.open.new.floor c.in-Ok.ensures.only.frame c.in-Ok.ensures.cells locked)))
+    (c.in-Ok-run_passes.ensures.free (locked_opened c.args.team.now marks c.args.input.now.pass.targets.items c.args.floor.now c.open.new.floor c.in-Ok.ensures.only.frame c.in-Ok.ensures.cells locked)))
     c.finish.ensures.left

@@ -19,14 +19,14 @@ pub returns-in-Ok-repair_in_session-clause-kept : goal.returns-in-Ok-repair_in_s
 returns-in-Ok-repair_in_session-clause-kept g c = λ keep own legal.
     let flags = c.in-Ok.ensures.marked c.args.team.now (sym c.team_number.ensures ∙ c.in-Some.is) in
     c.in-Ok-repair_in_session.ensures.marked (c.in-Ok.ensures.how ∙ keep)
-    (locked_at_start c.args.team.now c.args.floor.now c.in-Some.number c.in-Ok.start.pass.locked.items c.in-Ok.start.pass.targets.items (sym c.team_number.ensures ∙ c.in-Some.is)
+    (locked_at_start c.args.team.now c.args.floor.now c.in-Some.number c.in-Ok.input.pass.locked.items c.in-Ok.input.pass.targets.items (sym c.team_number.ensures ∙ c.in-Some.is)
     c.in-Ok.ensures.targets (λ k mark. flags.only legal.state legal.there k mark)) own (flags.legal own legal)
 
 pub returns-clause-kept : goal.returns-clause-kept
 returns-clause-kept g c = λ keep own legal.
     let flags = c.in-Ok.ensures.marked c.args.team.now (sym c.team_number.ensures ∙ c.in-Some.is) in
     c.in-Err.ensures.marked (c.in-Ok.ensures.how ∙ keep)
-    (locked_at_start c.args.team.now c.args.floor.now c.in-Some.number c.in-Ok.start.pass.locked.items c.in-Ok.start.pass.targets.items (sym c.team_number.ensures ∙ c.in-Some.is)
+    (locked_at_start c.args.team.now c.args.floor.now c.in-Some.number c.in-Ok.input.pass.locked.items c.in-Ok.input.pass.targets.items (sym c.team_number.ensures ∙ c.in-Some.is)
     c.in-Ok.ensures.targets (λ k mark. flags.only legal.state legal.there k mark)) own (flags.legal own legal)
 
 pub returns-in-Ok-repair_in_session-clause-changed : goal.returns-in-Ok-repair_in_session-clause-changed
@@ -35,7 +35,7 @@ returns-in-Ok-repair_in_session-clause-changed g c =
     let old = c.args.floor.now in
     let new = c.repair_in_session.new.floor in
     subst (λ (xs : List ℕ). OnlyListedMove team old new xs) (sym (items_same c.stats_of.result.changed c.in-Ok-repair_in_session.found.changed c.stats_of.ensures.changed))
-    (only_move team old new c.in-Some.number c.in-Ok.start.pass.targets.items c.in-Ok-repair_in_session.found.changed.items (sym c.team_number.ensures ∙ c.in-Some.is) c.in-Ok.ensures.targets
+    (only_move team old new c.in-Some.number c.in-Ok.input.pass.targets.items c.in-Ok-repair_in_session.found.changed.items (sym c.team_number.ensures ∙ c.in-Some.is) c.in-Ok.ensures.targets
     c.in-Ok-repair_in_session.ensures.only.names c.in-Ok-repair_in_session.ensures.changed)
 
 pub returns-in-Ok-repair_in_session-clause-moved : goal.returns-in-Ok-repair_in_session-clause-moved
@@ -44,7 +44,7 @@ returns-in-Ok-repair_in_session-clause-moved g c =
     let old = c.args.floor.now in
     let new = c.repair_in_session.new.floor in
     subst (λ (xs : List ℕ). AllListedMove team old new xs) (sym (items_same c.stats_of.result.changed c.in-Ok-repair_in_session.found.changed c.stats_of.ensures.changed))
-    (all_move team old new c.in-Some.number c.in-Ok.start.pass.targets.items c.in-Ok-repair_in_session.found.changed.items (sym c.team_number.ensures ∙ c.in-Some.is) c.in-Ok.ensures.targets
+    (all_move team old new c.in-Some.number c.in-Ok.input.pass.targets.items c.in-Ok-repair_in_session.found.changed.items (sym c.team_number.ensures ∙ c.in-Some.is) c.in-Ok.ensures.targets
     c.in-Ok-repair_in_session.ensures.only.names c.in-Ok-repair_in_session.ensures.moved)
 
 pub returns-in-Ok-repair_in_session-clause-named : goal.returns-in-Ok-repair_in_session-clause-named
@@ -56,8 +56,8 @@ pub returns-in-Ok-repair_in_session-clause-complete : goal.returns-in-Ok-repair_
 returns-in-Ok-repair_in_session-clause-complete g c =
     subst (λ (xs : List ℕ). All (HasNoPlaceOrIsListed c.args.search.now.reach c.args.impossible.now c.args.floor.now c.repair_in_session.new.floor c.args.team.now) xs)
     (sym (items_same c.stats_of.result.unrepaired c.in-Ok-repair_in_session.found.left c.stats_of.ensures.left))
-    (none_or_listed c.args.search.now.reach c.args.impossible.now c.args.floor.now c.repair_in_session.new.floor c.args.team.now c.in-Some.number c.in-Ok.start.pass.targets.items
-    c.in-Ok.start.pass.impossible.items c.in-Ok-repair_in_session.found.left.items (sym c.team_number.ensures ∙ c.in-Some.is) c.in-Ok.ensures.targets c.in-Ok-repair_in_session.ensures.only c.in-Ok.ensures.flagged c.in-Ok-repair_in_session.ensures.unrepaired.without)
+    (none_or_listed c.args.search.now.reach c.args.impossible.now c.args.floor.now c.repair_in_session.new.floor c.args.team.now c.in-Some.number c.in-Ok.input.pass.targets.items
+    c.in-Ok.input.pass.impossible.items c.in-Ok-repair_in_session.found.left.items (sym c.team_number.ensures ∙ c.in-Some.is) c.in-Ok.ensures.targets c.in-Ok-repair_in_session.ensures.only c.in-Ok.ensures.flagged c.in-Ok-repair_in_session.ensures.unrepaired.without)
 
 pub returns-in-Ok-repair_in_session-clause-illegal : goal.returns-in-Ok-repair_in_session-clause-illegal
 returns-in-Ok-repair_in_session-clause-illegal g c =
@@ -86,26 +86,26 @@ pub returns-in-Ok-repair_in_session-clause-reported : goal.returns-in-Ok-repair_
 returns-in-Ok-repair_in_session-clause-reported g c =
     let team = c.args.team.now in
     let named : team_number c.args.floor.now.frame team ≡ Some c.in-Some.number = sym c.team_number.ensures ∙ c.in-Some.is in
-    team_stats_of team c.args.floor.now c.repair_in_session.new.floor c.in-Some.number c.in-Ok.start.pass.targets.items c.in-Ok.start.legal.items c.stats_of.result named
+    team_stats_of team c.args.floor.now c.repair_in_session.new.floor c.in-Some.number c.in-Ok.input.pass.targets.items c.in-Ok.input.legal.items c.stats_of.result named
     c.in-Ok-repair_in_session.ensures.only c.in-Ok.ensures.targets (c.in-Ok.ensures.legal team named) c.stats_of.ensures.tally
 
 pub returns-in-Ok-repair_in_session-clause-off_soft : goal.returns-in-Ok-repair_in_session-clause-off_soft
 returns-in-Ok-repair_in_session-clause-off_soft g c =
-    moved_off_soft c.args.team.now c.args.floor.now c.repair_in_session.new.floor c.in-Some.number c.in-Ok.start.pass.targets.items (sym c.team_number.ensures ∙ c.in-Some.is)
+    moved_off_soft c.args.team.now c.args.floor.now c.repair_in_session.new.floor c.in-Some.number c.in-Ok.input.pass.targets.items (sym c.team_number.ensures ∙ c.in-Some.is)
     c.in-Ok.ensures.targets c.in-Ok-repair_in_session.ensures.only.names c.in-Ok-repair_in_session.ensures.off_soft
 
 pub returns-in-Ok-repair_in_session-clause-unmoved : goal.returns-in-Ok-repair_in_session-clause-unmoved
 returns-in-Ok-repair_in_session-clause-unmoved g c = λ own is.
     let named : team_number c.args.floor.now.frame c.args.team.now ≡ Some c.in-Some.number = sym c.team_number.ensures ∙ c.in-Some.is in
     c.in-Ok-repair_in_session.ensures.unmoved
-    (flagged_at_start c.args.team.now c.args.floor.now c.in-Some.number c.in-Ok.start.pass.impossible.items c.in-Ok.start.pass.targets.items is.state named is.there c.in-Ok.ensures.targets)
+    (flagged_at_start c.args.team.now c.args.floor.now c.in-Some.number c.in-Ok.input.pass.impossible.items c.in-Ok.input.pass.targets.items is.state named is.there c.in-Ok.ensures.targets)
     own ((c.in-Ok.ensures.flagged own).1 is)
 
 pub returns-clause-unmoved : goal.returns-clause-unmoved
 returns-clause-unmoved g c = λ own is.
     let named : team_number c.args.floor.now.frame c.args.team.now ≡ Some c.in-Some.number = sym c.team_number.ensures ∙ c.in-Some.is in
     c.in-Err.ensures.unmoved
-    (flagged_at_start c.args.team.now c.args.floor.now c.in-Some.number c.in-Ok.start.pass.impossible.items c.in-Ok.start.pass.targets.items is.state named is.there c.in-Ok.ensures.targets)
+    (flagged_at_start c.args.team.now c.args.floor.now c.in-Some.number c.in-Ok.input.pass.impossible.items c.in-Ok.input.pass.targets.items is.state named is.there c.in-Ok.ensures.targets)
     own ((c.in-Ok.ensures.flagged own).1 is)
 
 pub team_input-requires : goal.team_input-requires
@@ -113,12 +113,12 @@ team_input-requires g c = sym c.team_number.ensures ∙ c.in-Some.is
 
 pub returns-in-Ok-repair_in_session-clause-within : goal.returns-in-Ok-repair_in_session-clause-within
 returns-in-Ok-repair_in_session-clause-within g c =
-    stays_within c.args.search.now.reach c.in-Ok.start.pass.targets.items c.args.team.now c.args.floor.now c.repair_in_session.new.floor c.in-Some.number
+    stays_within c.args.search.now.reach c.in-Ok.input.pass.targets.items c.args.team.now c.args.floor.now c.repair_in_session.new.floor c.in-Some.number
     (sym c.team_number.ensures ∙ c.in-Some.is) c.in-Ok.ensures.targets c.in-Ok-repair_in_session.ensures.only.names c.in-Ok-repair_in_session.ensures.within
 
 pub returns-in-Ok-repair_in_session-clause-means : goal.returns-in-Ok-repair_in_session-clause-means
 returns-in-Ok-repair_in_session-clause-means g c =
-    team_means_of c.args.team.now c.args.floor.now c.repair_in_session.new.floor c.in-Some.number c.in-Ok.start.pass.targets.items c.stats_of.result.means
+    team_means_of c.args.team.now c.args.floor.now c.repair_in_session.new.floor c.in-Some.number c.in-Ok.input.pass.targets.items c.stats_of.result.means
     (sym c.team_number.ensures ∙ c.in-Some.is) c.in-Ok-repair_in_session.ensures.only.frame c.in-Ok-repair_in_session.ensures.only.names c.in-Ok.ensures.targets c.stats_of.ensures.means
 
 pub returns-in-Ok-repair_in_session-clause-were_illegal : goal.returns-in-Ok-repair_in_session-clause-were_illegal
@@ -126,5 +126,5 @@ returns-in-Ok-repair_in_session-clause-were_illegal g c =
     let team = c.args.team.now in
     let named : team_number c.args.floor.now.frame team ≡ Some c.in-Some.number = sym c.team_number.ensures ∙ c.in-Some.is in
     subst (λ (xs : List ℕ). All (λ own. WasIllegal c.args.floor.now team own) xs) (sym (items_same c.stats_of.result.unrepaired c.in-Ok-repair_in_session.found.left c.stats_of.ensures.left))
-    (were_not_legal team c.args.floor.now c.in-Some.number c.in-Ok.start.pass.locked.items c.in-Ok.start.pass.targets.items c.in-Ok-repair_in_session.found.left.items named
+    (were_not_legal team c.args.floor.now c.in-Some.number c.in-Ok.input.pass.locked.items c.in-Ok.input.pass.targets.items c.in-Ok-repair_in_session.found.left.items named
     c.in-Ok.ensures.targets (c.in-Ok.ensures.marked team named) c.in-Ok-repair_in_session.ensures.free)

@@ -6,10 +6,10 @@ use Rattle.lf_repair_team.proofs.team.run_pass.Given as goal
 
 abbrev pub invariant-loop-phase : goal.invariant-loop-phase
 invariant-loop-phase g l = record {
-  run : (lz : Legalizer) → IsWrittenRun lz l.seat.team.now l.fn.floor (g.K.Sink.contents l.fn.lines) (g.K.Sink.contents l.lines) l.floor;
-  only : ChangesOnly l.seat.team.now l.fn.floor l.floor;
-  marked : KeepsLockedPlaces l.seat.team.now l.pass.locked.items l.fn.floor l.floor;
-  flagged : KeepsLockedPlaces l.seat.team.now l.seat.impossible.now l.fn.floor l.floor;
-  legal : KeepsLockedLegal l.seat.team.now l.pass.locked.items l.fn.floor l.floor;
-  committed : KeepsCommittedAndSettings l.seat.team.now l.seat.session l.fn.floor l.floor;
+  run : (lz : Legalizer) → IsWrittenRun lz l.session.team.now l.fn.floor (g.K.Sink.contents l.fn.lines) (g.K.Sink.contents l.lines) l.floor;
+  only : ChangesOnly l.session.team.now l.fn.floor l.floor;
+  marked : KeepsLockedPlaces l.session.team.now l.pass.locked.items l.fn.floor l.floor;
+  flagged : KeepsLockedPlaces l.session.team.now l.session.impossible.now l.fn.floor l.floor;
+  legal : KeepsLockedLegal l.session.team.now l.pass.locked.items l.fn.floor l.floor;
+  committed : KeepsCommittedAndSettings l.session.team.now l.session.session l.fn.floor l.floor;
 }

@@ -7,7 +7,7 @@ use Rattle.lf_reports.proofs.verdicts.broken_in.Goals as goal
 
 pub returns : goal.returns
 returns c = λ l.
-    let f = c.args.plan.now in
+    let f = c.args.frame.now in
     let cells = map with_byte_name c.args.cells.now in
     let cell = with_byte_name c.args.cell.now in
     broken_is l f c.args.near.now.padding.sites cells c.args.own cell c.in_ok-place.place c.broken_at.result c.verdict_is_unique.ensures c.requires.cell.this

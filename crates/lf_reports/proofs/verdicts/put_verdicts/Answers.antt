@@ -28,7 +28,7 @@ there c =
 
 pub put_verdict-requires-clause-cell : goal.put_verdict-requires-clause-cell
 put_verdict-requires-clause-cell c = record {
-  this = listed_there c.args.plan.now c.args.cells.now (get_or c.args.boxes.now c.loop-number.number nowhere).own (with_byte_name c.index-cell.result.now)
+  this = listed_there c.args.frame.now c.args.cells.now (get_or c.args.boxes.now c.loop-number.number nowhere).own (with_byte_name c.index-cell.result.now)
       c.requires.listed.listed (there c);
   there = there c;
   within = c.requires.known c.loop-number.number nowhere c.loop-number-test.true;
@@ -37,7 +37,7 @@ put_verdict-requires-clause-cell c = record {
 pub loop-number-init : goal.loop-number-init
 loop-number-init c = (
   c.requires.count,
-  λ l done have. subst (λ (xs : List Placed). HaveVerdicts l c.args.plan.now c.args.near.now.padding.sites (map with_byte_name c.args.cells.now) xs c.args.verdicts.now.items) (sym (append-nil done)) have,
+  λ l done have. subst (λ (xs : List Placed). HaveVerdicts l c.args.frame.now c.args.near.now.padding.sites (map with_byte_name c.args.cells.now) xs c.args.verdicts.now.items) (sym (append-nil done)) have,
 )
 
 pub loop-number-preserved : goal.loop-number-preserved
@@ -45,11 +45,11 @@ loop-number-preserved c = (
   c.put_verdict.ensures.count,
   λ l done have.
       let before = c.loop-number.invariant.1 l done have in
-      next_done l c.args.plan.now c.args.near.now.padding.sites (map with_byte_name c.args.cells.now) done c.args.boxes.now c.loop-number.number nowhere c.loop-number.verdicts.items _
+      next_done l c.args.frame.now c.args.near.now.padding.sites (map with_byte_name c.args.cells.now) done c.args.boxes.now c.loop-number.number nowhere c.loop-number.verdicts.items _
       c.loop-number-test.true before (c.put_verdict.ensures.put l before.some),
 )
 
 pub returns-clause-put : goal.returns-clause-put
 returns-clause-put c = λ l done have.
     let all : take c.loop-number.number c.args.boxes.now ≡ c.args.boxes.now = take_all c.loop-number.number c.args.boxes.now c.loop-number-test.false in
-    subst (λ (xs : List Placed). HaveVerdicts l c.args.plan.now c.args.near.now.padding.sites (map with_byte_name c.args.cells.now) (done ++ xs) c.loop-number.verdicts.items) all (c.loop-number.invariant.1 l done have)
+    subst (λ (xs : List Placed). HaveVerdicts l c.args.frame.now c.args.near.now.padding.sites (map with_byte_name c.args.cells.now) (done ++ xs) c.loop-number.verdicts.items) all (c.loop-number.invariant.1 l done have)

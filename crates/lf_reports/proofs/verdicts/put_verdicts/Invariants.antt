@@ -8,5 +8,5 @@ use Rattle.lf_reports.proofs.verdicts.put_verdicts.Given as goal
 abbrev pub invariant-loop-number : goal.invariant-loop-number
 invariant-loop-number l =
     (length l.verdicts.items ≡ length l.cells)
-    × ((lz : Legalizer) (done : List Placed) → HaveVerdicts lz l.plan l.near.padding.sites (map with_byte_name l.cells) done l.initial.verdicts.items →
-    HaveVerdicts lz l.plan l.near.padding.sites (map with_byte_name l.cells) (done ++ take l.number l.boxes) l.verdicts.items)
+    × ((lz : Legalizer) (done : List Placed) → HaveVerdicts lz l.frame l.near.padding.sites (map with_byte_name l.cells) done l.initial.verdicts.items →
+    HaveVerdicts lz l.frame l.near.padding.sites (map with_byte_name l.cells) (done ++ take l.number l.boxes) l.verdicts.items)

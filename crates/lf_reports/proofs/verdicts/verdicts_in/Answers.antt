@@ -13,7 +13,7 @@ put_verdicts-requires-clause-known c =
 
 pub loop-rest-init : goal.loop-rest-init
 loop-rest-init c =
-    let f = c.args.plan.now in
+    let f = c.args.frame.now in
     let cells = map with_byte_name c.args.cells.now in
     let named_long : length cells ≡ length c.args.cells.now = length-map c.args.cells.now with_byte_name in
     let long : length (map listed_member cells) ≡ length c.args.cells.now = length-map cells listed_member ∙ named_long in
@@ -36,11 +36,11 @@ loop-rest-preserved c =
       count = c.put_verdicts.ensures.count;
       known = subst (All Known) (sym c.split_at.ensures.back) (All-drop Known _ c.loop-rest.rest.now c.loop-rest.invariant.known);
       have = λ l.
-          pass_some l c.args.plan.now c.args.near.now.padding.sites (map with_byte_name c.args.cells.now) c.args.near.now.boxes.now c.loop-rest.rest.now _ _ _ c.loop-rest.verdicts.items _
+          pass_some l c.args.frame.now c.args.near.now.padding.sites (map with_byte_name c.args.cells.now) c.args.near.now.boxes.now c.loop-rest.rest.now _ _ _ c.loop-rest.verdicts.items _
           c.split_at.ensures.front c.split_at.ensures.back (λ done have. c.in_ok-put_verdicts.ensures.put l done have) (c.loop-rest.invariant.have l);
     }
 
 pub returns-clause-each : goal.returns-clause-each
 returns-clause-each c = λ l.
-    all_passed l c.args.plan.now c.args.near.now.padding.sites (map with_byte_name c.args.cells.now) c.args.near.now.boxes.now c.loop-rest.rest.now c.loop-rest.verdicts.items
+    all_passed l c.args.frame.now c.args.near.now.padding.sites (map with_byte_name c.args.cells.now) c.args.near.now.boxes.now c.loop-rest.rest.now c.loop-rest.verdicts.items
     c.requires.tree (search rules) (c.loop-rest.invariant.have l)

@@ -10,7 +10,7 @@ abbrev pub invariant-loop-rest : goal.invariant-loop-rest
 invariant-loop-rest l = record {
   count : length l.verdicts.items ≡ length l.cells;
   known : All (λ p. p.own < length l.cells) l.rest;
-  have : (lz : Legalizer) → HaveBefore lz l.plan l.near.padding.sites (map with_byte_name l.cells) l.near.boxes.now l.rest l.verdicts.items;
+  have : (lz : Legalizer) → HaveBefore lz l.frame l.near.padding.sites (map with_byte_name l.cells) l.near.boxes.now l.rest l.verdicts.items;
 }
 
 abbrev pub decreases-loop-rest : goal.decreases-loop-rest

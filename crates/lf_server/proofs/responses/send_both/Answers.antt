@@ -1,8 +1,8 @@
 use Rattle.lf_server.proofs.Parts.{front_after, front_first}
 use Rattle.lf_server.proofs.responses.send_both.Goals as goal
 
-pub returns-in_err-send-clause-front : goal.returns-in_err-send-clause-front
-returns-in_err-send-clause-front g c = front_first c.from_residual.result _ _ c.args.first.now c.args.second.now c.in_err-send.ensures.front
+pub returns-in_err-send-clause-prefix : goal.returns-in_err-send-clause-prefix
+returns-in_err-send-clause-prefix g c = front_first c.from_residual.result _ _ c.args.first.now c.args.second.now c.in_err-send.ensures.prefix
 
-pub returns-clause-front : goal.returns-clause-front
-returns-clause-front g c = front_after c.send-2.result _ _ _ c.args.first.now c.args.second.now c.in_ok-send.ensures.ok c.send-2.ensures.front
+pub returns-clause-prefix : goal.returns-clause-prefix
+returns-clause-prefix g c = front_after c.send-2.result _ _ _ c.args.first.now c.args.second.now c.in_ok-send.ensures.ok c.send-2.ensures.front

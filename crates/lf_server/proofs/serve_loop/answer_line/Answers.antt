@@ -14,7 +14,7 @@ returns-then-is_err-clause-serves g c = λ l.
     exchanged l (Some WriteFault) _ _ c.args.floor.now c.answer-response.new.floor (option_map (λ bytes. bytes.now) c.args.line)
     (option_map command_with_names c.request_of_line-request.result) (reply_in c.answer-response.new.floor c.team_requested.result.now c.answer-response.result) c.team_requested.result.now c.request_of_line-request.ensures c.team_requested.ensures
     (breaks_one _ _ _ _ _ _ (reply_text_of c.answer-response.new.floor c.team_requested.result.now (reply_in c.answer-response.new.floor c.team_requested.result.now c.answer-response.result))
-    (on_err_yes c.send_response.result e c.send_response.ensures.front) (on_err_yes c.send_response.result e c.send_response.ensures.failed)) (subst (λ (t : List ℕ). IsAnswered l c.args.floor.now (option_map command_with_names c.request_of_line-request.result) (reply_in c.answer-response.new.floor t c.answer-response.result) c.answer-response.new.floor)
+    (on_err_yes c.send_response.result e c.send_response.ensures.prefix) (on_err_yes c.send_response.result e c.send_response.ensures.failed)) (subst (λ (t : List ℕ). IsAnswered l c.args.floor.now (option_map command_with_names c.request_of_line-request.result) (reply_in c.answer-response.new.floor t c.answer-response.result) c.answer-response.new.floor)
     (sym c.team_requested.ensures) (c.answer-response.ensures.answered l))
 
 pub returns-then-is_end-clause-serves : goal.returns-then-is_end-clause-serves

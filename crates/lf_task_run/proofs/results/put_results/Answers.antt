@@ -11,7 +11,7 @@ returns-clause-ok g c = λ text document kept.
 pub returns-in_err-put_report-clause-err : goal.returns-in_err-put_report-clause-err
 returns-in_err-put_report-clause-err g c = λ text document kept.
     let p = err_from_is_err_and c.from_residual.result c.from_residual.ensures.1 in
-    rw (p.1, p.2) (inl (c.in_err-put_report.ensures.err, rw c.as_slice.ensures.value at c.in_err-put_report.ensures.front, refl))
+    rw (p.1, p.2) (inl (c.in_err-put_report.ensures.err, rw c.as_slice.ensures.value at c.in_err-put_report.ensures.prefix, refl))
 
 pub returns-in_err-put_report-clause-blames : goal.returns-in_err-put_report-clause-blames
 returns-in_err-put_report-clause-blames g c =

@@ -24,7 +24,7 @@ serve_floor-requires g c =
           (can_be_put design.original of.text of.document places of.are
           (c.kept_clauses_suffice.ensures.ready of.text of.document places of.read (c.loaded_cells_are_exportable.ensures _ design.loaded places of.loads
           (c.places_follow_design.ensures design.loaded s places
-          (same ∙ begun_components (g.D.Texts.InputFiles.gives c.args.around.now.texts) (path_of c.args.state) (initial_floor design.loaded) c.in_ok-floor.floor c.in_ok-floor.ensures.ok) are))));
+          (same ∙ begun_components (g.D.Texts.InputFiles.gives c.args.environment.now.texts) (path_of c.args.state) (initial_floor design.loaded) c.in_ok-floor.floor c.in_ok-floor.ensures.ok) are))));
     }
 
 pub returns-clause-ok : goal.returns-clause-ok
@@ -44,5 +44,5 @@ returns-in_err-floor-clause-err g c = λ text document are.
     rw (p.1, p.2) (
       inl (c.in_err-floor.ensures.err, record { unread = refl; unwritten = refl; unput = refl; unaccepted = refl }),
       early_blames _ _ _ _ _ _ _ refl (still_sound _)
-          (unbegun_early (g.D.Texts.InputFiles.gives c.args.around.now.texts) (path_of c.args.state) c.args.design.loaded _ c.in_err-floor.ensures.err),
+          (unbegun_early (g.D.Texts.InputFiles.gives c.args.environment.now.texts) (path_of c.args.state) c.args.design.loaded _ c.in_err-floor.ensures.err),
     )

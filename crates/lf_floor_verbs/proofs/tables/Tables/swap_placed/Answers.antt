@@ -39,6 +39,6 @@ exchange-requires-clause-first g c =
     let x = c.args.exchange.now in
     let number = c.args.around.now.number in
     let p = c.args.self.now.placement in
-    let q = c.make_room_for.new.self.placement in
-    alone_moved number p q x.first x.to None c.requires.are.first (only_grown number p q c.make_room_for.ensures.grown.placement)
+    let q = c.reserve_moves.new.self.placement in
+    alone_moved number p q x.first x.to None c.requires.are.first (only_grown number p q c.reserve_moves.ensures.grown.placement)
     (subst (λ (a : Option Rule). IsBrokenFrameRule p x.first x.to a) c.in_default.is c.broken_frame_rule-alone.ensures)

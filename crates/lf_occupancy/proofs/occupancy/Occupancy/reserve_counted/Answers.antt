@@ -13,12 +13,12 @@ returns-clause-own c = λ boxes own is bounds.
     let o = c.self.inside in
     let team = c.args.team in
     let held : Occupied = with_boxes record { index = o.index; site = o.site; mark_lists = o.mark_lists.items } [] in
-    let was : Bounds held team boxes c.args.tally.now =
-    subst (λ (m : Marked). Bounds (with_boxes m []) team boxes c.args.tally.now) (sym c.self.view_is) bounds in
-    let before : Bounds held team boxes c.tally.inside.counts.items = subst (λ (ns : List ℕ). Bounds held team boxes ns) (sym c.tally.view_is) was in
+    let was : Bounds held team boxes c.args.counts.now =
+    subst (λ (m : Marked). Bounds (with_boxes m []) team boxes c.args.counts.now) (sym c.self.view_is) bounds in
+    let before : Bounds held team boxes c.counts.inside.counts.items = subst (λ (ns : List ℕ). Bounds held team boxes ns) (sym c.counts.view_is) was in
     on_ok_weaker c.raise.result
     (λ (higher : IsHigher (widened_strips o.site o.index.strips) team c.args.to.now c.lower.new.counts.items c.raise.new.counts.items).
-    bounds_own held team boxes own c.args.from.now c.args.to.now c.tally.inside.counts.items c.lower.new.counts.items c.raise.new.counts.items is
+    bounds_own held team boxes own c.args.from.now c.args.to.now c.counts.inside.counts.items c.lower.new.counts.items c.raise.new.counts.items is
     c.lower.ensures higher before) c.raise.ensures.more
 
 pub returns-clause-others : goal.returns-clause-others
@@ -26,12 +26,12 @@ returns-clause-others c = λ boxes other differ bounds.
     let o = c.self.inside in
     let team = c.args.team in
     let held : Occupied = with_boxes record { index = o.index; site = o.site; mark_lists = o.mark_lists.items } [] in
-    let was : Bounds held other boxes c.args.tally.now =
-    subst (λ (m : Marked). Bounds (with_boxes m []) other boxes c.args.tally.now) (sym c.self.view_is) bounds in
-    let before : Bounds held other boxes c.tally.inside.counts.items = subst (λ (ns : List ℕ). Bounds held other boxes ns) (sym c.tally.view_is) was in
+    let was : Bounds held other boxes c.args.counts.now =
+    subst (λ (m : Marked). Bounds (with_boxes m []) other boxes c.args.counts.now) (sym c.self.view_is) bounds in
+    let before : Bounds held other boxes c.counts.inside.counts.items = subst (λ (ns : List ℕ). Bounds held other boxes ns) (sym c.counts.view_is) was in
     on_ok_weaker c.raise.result
     (λ (higher : IsHigher (widened_strips o.site o.index.strips) team c.args.to.now c.lower.new.counts.items c.raise.new.counts.items).
-    bounds_other held team other boxes c.args.from.now c.args.to.now c.tally.inside.counts.items c.lower.new.counts.items c.raise.new.counts.items differ
+    bounds_other held team other boxes c.args.from.now c.args.to.now c.counts.inside.counts.items c.lower.new.counts.items c.raise.new.counts.items differ
     c.lower.ensures higher before) c.raise.ensures.more
 
 pub returns-clause-holds : goal.returns-clause-holds
@@ -51,13 +51,13 @@ returns-in-Some-clause-own c = λ boxes own is bounds.
     let team = c.args.team in
     let shift = c.in-Some.shift in
     let held : Occupied = with_boxes record { index = o.index; site = o.site; mark_lists = o.mark_lists.items } [] in
-    let was : Bounds held team boxes c.args.tally.now =
-    subst (λ (m : Marked). Bounds (with_boxes m []) team boxes c.args.tally.now) (sym c.self.view_is) bounds in
-    let before : Bounds held team boxes c.tally.inside.counts.items = subst (λ (ns : List ℕ). Bounds held team boxes ns) (sym c.tally.view_is) was in
+    let was : Bounds held team boxes c.args.counts.now =
+    subst (λ (m : Marked). Bounds (with_boxes m []) team boxes c.args.counts.now) (sym c.self.view_is) bounds in
+    let before : Bounds held team boxes c.counts.inside.counts.items = subst (λ (ns : List ℕ). Bounds held team boxes ns) (sym c.counts.view_is) was in
     on_ok_weaker c.shift_rows.result
-    (λ (shifted : AreShifted (widened_strips o.site o.index.strips) team shift c.tally.inside.counts.items c.shift_rows.new.counts.items).
+    (λ (shifted : AreShifted (widened_strips o.site o.index.strips) team shift c.counts.inside.counts.items c.shift_rows.new.counts.items).
     subst (λ (to : Option Rect). Bounds held team (set boxes own to) c.shift_rows.new.counts.items) (sym c.in-Some.ensures.to_is)
-    (bounds_shifted held team boxes own shift c.tally.inside.counts.items c.shift_rows.new.counts.items (is ∙ c.in-Some.ensures.from_is) shifted before))
+    (bounds_shifted held team boxes own shift c.counts.inside.counts.items c.shift_rows.new.counts.items (is ∙ c.in-Some.ensures.from_is) shifted before))
     c.shift_rows.ensures.shifted
 
 pub returns-in-Some-clause-others : goal.returns-in-Some-clause-others
@@ -66,12 +66,12 @@ returns-in-Some-clause-others c = λ boxes other differ bounds.
     let team = c.args.team in
     let shift = c.in-Some.shift in
     let held : Occupied = with_boxes record { index = o.index; site = o.site; mark_lists = o.mark_lists.items } [] in
-    let was : Bounds held other boxes c.args.tally.now =
-    subst (λ (m : Marked). Bounds (with_boxes m []) other boxes c.args.tally.now) (sym c.self.view_is) bounds in
-    let before : Bounds held other boxes c.tally.inside.counts.items = subst (λ (ns : List ℕ). Bounds held other boxes ns) (sym c.tally.view_is) was in
+    let was : Bounds held other boxes c.args.counts.now =
+    subst (λ (m : Marked). Bounds (with_boxes m []) other boxes c.args.counts.now) (sym c.self.view_is) bounds in
+    let before : Bounds held other boxes c.counts.inside.counts.items = subst (λ (ns : List ℕ). Bounds held other boxes ns) (sym c.counts.view_is) was in
     on_ok_weaker c.shift_rows.result
-    (λ (shifted : AreShifted (widened_strips o.site o.index.strips) team shift c.tally.inside.counts.items c.shift_rows.new.counts.items).
-    bounds_beside held team other boxes shift c.tally.inside.counts.items c.shift_rows.new.counts.items differ shifted before) c.shift_rows.ensures.shifted
+    (λ (shifted : AreShifted (widened_strips o.site o.index.strips) team shift c.counts.inside.counts.items c.shift_rows.new.counts.items).
+    bounds_beside held team other boxes shift c.counts.inside.counts.items c.shift_rows.new.counts.items differ shifted before) c.shift_rows.ensures.shifted
 
 pub returns-in-Some-clause-holds : goal.returns-in-Some-clause-holds
 returns-in-Some-clause-holds c = λ boxes holds.

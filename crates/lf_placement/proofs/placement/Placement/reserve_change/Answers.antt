@@ -10,7 +10,7 @@ pub invariant_of-sized : goal.invariant_of-sized
 invariant_of-sized c = record { sized = c.self.invariant.placing.sized }
 
 pub reserve_change-requires : goal.reserve_change-requires
-reserve_change-requires c = subst (λ (p : Placing). KeepsCapacities c.args.tally.now p.held.rooms) (sym c.self.view_is) c.requires
+reserve_change-requires c = subst (λ (p : Placing). KeepsCapacities c.args.counts.now p.held.rooms) (sym c.self.view_is) c.requires
 
 pub invariant_of-self : goal.invariant_of-self
 invariant_of-self c =
@@ -24,12 +24,12 @@ invariant_of-self c =
 
 pub returns-clause-own : goal.returns-clause-own
 returns-clause-own c = λ places is bounds.
-    c.reserve_change.ensures.own places is (subst (λ (p : Placing). BoundsAt p c.args.team places c.args.tally.now) (sym c.self.view_is) bounds)
+    c.reserve_change.ensures.own places is (subst (λ (p : Placing). BoundsAt p c.args.team places c.args.counts.now) (sym c.self.view_is) bounds)
 
 pub returns-clause-others : goal.returns-clause-others
 returns-clause-others c = λ places other differ bounds.
     c.reserve_change.ensures.others (boxes_at c.self.inside.frame (cells_of c.self.inside.cells other) places) other differ
-    (subst (λ (p : Placing). BoundsAt p other places c.args.tally.now) (sym c.self.view_is) bounds)
+    (subst (λ (p : Placing). BoundsAt p other places c.args.counts.now) (sym c.self.view_is) bounds)
 
 pub returns-clause-same : goal.returns-clause-same
 returns-clause-same c =

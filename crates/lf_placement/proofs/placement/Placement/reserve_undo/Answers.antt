@@ -9,5 +9,5 @@ returns-clause-fits c =
     let team = c.args.team in
     let places = c.fit_moves_back.new.places in
     both_ok c.fit_moves_back.result
-    (λ room bounds. bounds_fit p.held team (boxes_at p.frame (cells_of p.cells team) places) c.fit_moves_back.new.tally room bounds)
+    (λ room bounds. bounds_fit p.held team (boxes_at p.frame (cells_of p.cells team) places) c.fit_moves_back.new.counts room bounds)
     c.fit_moves_back.ensures.room c.fit_moves_back.ensures.bounds

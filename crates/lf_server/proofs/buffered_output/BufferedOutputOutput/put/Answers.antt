@@ -25,7 +25,7 @@ returns g c = λ start before had.
     let n = g.W.Sink.contents c.send_both.new.sink in
     let waiting = c.args.self.now.waiting.now.items in
     let sent = under_both c.send_both.result a b n (start.waiting.now.items ++ before) waiting c.args.bytes.now way
-    (rw (← c.as_slice.ensures.value) c.send_both.ensures.ok) (rw (← c.as_slice.ensures.value) c.send_both.ensures.front) in (
+    (rw (← c.as_slice.ensures.value) c.send_both.ensures.ok) (rw (← c.as_slice.ensures.value) c.send_both.ensures.prefix) in (
       had.0,
       had.1,
       omega (arith, had.2, c.clear.ensures.capacity),

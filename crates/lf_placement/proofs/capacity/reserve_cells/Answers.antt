@@ -8,7 +8,7 @@ use Rattle.lf_occupancy.specs.Views.{HasRoomFor}
 use Rattle.lf_occupancy.specs.Strips.{with_boxes}
 use Rattle.lf_occupancy.proofs.Building.{boxes_there}
 use Rattle.lf_placement.proofs.Counts.{room_made}
-use Rattle.lf_placement.proofs.capacity.make_room_for.Goals as goal
+use Rattle.lf_placement.proofs.capacity.reserve_cells.Goals as goal
 
 pub returns-clause-ok : goal.returns-clause-ok
 returns-clause-ok c =
