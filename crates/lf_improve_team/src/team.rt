@@ -348,17 +348,17 @@ fn improve_in_session<S: Seeker + Drop, K: Sink>(
         Ok(session) => session,
         Err(fault) => return Err(fault),
     };
-    let seat = TeamSession {
+    let team_session = TeamSession {
         team,
         number,
         session,
         impossible: &[],
     };
-    let found = match move_cells(alloc, floor, &seat, attempt, lines) {
+    let found = match move_cells(alloc, floor, &team_session, attempt, lines) {
         Ok(found) => found,
         Err(fault) => return Err(fault),
     };
-    match close(floor, &seat, &mut buffers, lines) {
+    match close(floor, &team_session, &mut buffers, lines) {
         Ok(()) => Ok(found),
         Err(fault) => Err(fault),
     }

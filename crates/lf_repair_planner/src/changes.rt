@@ -55,10 +55,10 @@ impl Changes {
         gap: &Gap,
         segments: &[PackedSpan],
     ) -> Result<(), AllocError> {
-        let Some(wish) = input.cells.get(gap.cell.number as usize) else {
+        let Some(planner_cell) = input.cells.get(gap.cell.number as usize) else {
             return Ok(());
         };
-        for up in 0..wish.rows {
+        for up in 0..planner_cell.rows {
             if let Some(covered) = span_above(input, gap, up) {
                 self.keep(covered.span, segments)?;
             }

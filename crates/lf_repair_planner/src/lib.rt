@@ -36,12 +36,11 @@
 //! - `changes`: changed spans that may get their old cells back
 //! - `recreate`: a plan improved by ruin and recreate
 //!
-//! From `crates/lf_repair_strategy/src/rounds.rt`:
+//! From `crates/lf_repair_strategy/src/team_plan.rt`:
 //!
 //! ```
-//! let steps = steps_of(placement, owner.team, owns.as_slice().len());
-//! let spots = plan_cells(alloc, land, wishes.as_slice(), &steps)?;
-//! planned_cells(alloc, owns.as_slice(), spots.as_slice())
+//! let options = steps_of(placement, team.team, cells.owns.len());
+//! cells.starts = plan_cells(alloc, &free_rows, cells.cells.as_slice(), &options)?;
 //! ```
 #![tactic(auto)]
 

@@ -96,7 +96,7 @@ pub(crate) fn nearest_alone(
         free_rows: input.free_rows,
         segments,
         number,
-        wish: cell,
+        planner_cell: cell,
         limits,
         height: input.height,
         exact: false,
@@ -114,14 +114,14 @@ pub(crate) fn place_all(
     curve: &mut CostCurve,
 ) -> Result<(), AllocError> {
     for number in order {
-        let Some(wish) = input.cells.get(*number as usize) else {
+        let Some(planner_cell) = input.cells.get(*number as usize) else {
             continue;
         };
         let search = Search {
             free_rows: input.free_rows,
             segments: board.segments.as_slice(),
             number: *number,
-            wish,
+            planner_cell,
             limits,
             height: input.height,
             exact: false,
@@ -150,7 +150,7 @@ fn place_again(
         free_rows: input.free_rows,
         segments: board.segments.as_slice(),
         number: search.number,
-        wish: search.wish,
+        planner_cell: search.planner_cell,
         limits: search.limits,
         height: input.height,
         exact: false,
@@ -169,7 +169,7 @@ fn place_again(
 #[derive(Clone, Copy)]
 struct LimitedSearch<'a> {
     number: u32,
-    wish: &'a PlannerCell,
+    planner_cell: &'a PlannerCell,
     limits: &'a SearchLimits,
     limit: i64,
 }
@@ -184,12 +184,12 @@ pub(crate) fn pass(
     curve: &mut CostCurve,
 ) -> Result<(), AllocError> {
     for number in order {
-        let Some(wish) = input.cells.get(*number as usize) else {
+        let Some(planner_cell) = input.cells.get(*number as usize) else {
             continue;
         };
         let old = board.place_of(*number);
         let displacement = match &old {
-            Some(gap) => displacement_at(input, wish, gap),
+            Some(gap) => displacement_at(input, planner_cell, gap),
             None => i64::MAX,
         };
         if old.is_some() && displacement <= longer {
@@ -197,7 +197,7 @@ pub(crate) fn pass(
         }
         let search = LimitedSearch {
             number: *number,
-            wish,
+            planner_cell,
             limits,
             limit: cost_of(displacement, limits),
         };
@@ -215,8 +215,8 @@ fn push_displacements(
     displacements: &mut Vec<i64>,
 ) -> Result<(), AllocError> {
     for cell in cells {
-        if let Some(wish) = input.cells.get(cell.number as usize) {
-            displacements.push(displacement_at_site(wish, sites, y, cell.at))?;
+        if let Some(planner_cell) = input.cells.get(cell.number as usize) {
+            displacements.push(displacement_at_site(planner_cell, sites, y, cell.at))?;
         }
     }
     Ok(())
@@ -275,8 +275,8 @@ fn add_cells(
     worth: &mut PlanCost,
 ) {
     for cell in cells {
-        if let Some(wish) = input.cells.get(cell.number as usize) {
-            let way = displacement_at_site(wish, sites, y, cell.at);
+        if let Some(planner_cell) = input.cells.get(cell.number as usize) {
+            let way = displacement_at_site(planner_cell, sites, y, cell.at);
             worth.left = worth.left.saturating_sub(1);
             worth.longest = worth.longest.max(way);
             worth.sum = worth.sum.saturating_add(way);

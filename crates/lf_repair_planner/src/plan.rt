@@ -54,26 +54,26 @@ fn length_of(count: u32, step: u32) -> u64
     count as u64 * step as u64
 }
 
-/// Gives the cell at position `own` this spot.
-fn set_spot(planned: &mut Vec<Option<PlannedSite>>, own: usize, spot: PlannedSite)
+/// Gives the cell at position `own` this site.
+fn set_site(planned: &mut Vec<Option<PlannedSite>>, own: usize, planned_site: PlannedSite)
     requires { own < vec_len planned.old }
-    ensures { planned.new.items ≡ set planned.old.items own (Some spot) }
+    ensures { planned.new.items ≡ set planned.old.items own (Some planned_site) }
 {
-    planned[own] = Some(spot);
+    planned[own] = Some(planned_site);
 }
 
-/// Whether the cell at position `own` exists and has no spot.
+/// Whether the cell at position `own` exists and has no site.
 fn is_open(planned: &[Option<PlannedSite>], own: usize) -> bool
     ensures is { IsTrue result → slice_get planned.now own ≡ Some None }
     ensures within { IsTrue result → own < length planned.now }
 {
     match planned.get(own) {
-        Some(spot) => spot.is_none(),
+        Some(planned_site) => planned_site.is_none(),
         None => false,
     }
 }
 
-/// Records the spot of a cell of a span, which is right of the previous ones, and returns its end.
+/// Records the site of a cell of a span, which is right of the previous ones, and returns its end.
 /// A cell is skipped if it is not one of the plan, overlaps another, or reaches past the span's
 /// end, and if the span's position has more than 32 bits.
 fn note_cell(
@@ -88,22 +88,23 @@ fn note_cell(
     ensures count { vec_len planned.new ≡ vec_len planned.old }
 {
     let own = cell.number as usize;
-    let (Some(sites), Some(wish)) = (input.free_rows.spans.get(span), input.cells.get(own)) else {
+    let (Some(sites), Some(planner_cell)) = (input.free_rows.spans.get(span), input.cells.get(own))
+    else {
         return free;
     };
     let start = length_of(cell.at, sites.step);
-    let end = start + wish.width as u64;
+    let end = start + planner_cell.width as u64;
     if start < free || length_of(sites.count, sites.step) < end || !is_open(planned, own) {
         return free;
     }
     let Ok(span) = u32::try_from(span) else {
         return free;
     };
-    set_spot(planned, own, PlannedSite { span, at: cell.at });
+    set_site(planned, own, PlannedSite { span, at: cell.at });
     end
 }
 
-/// Records the spots of the cells of a span.
+/// Records the sites of the cells of a span.
 fn note_span(
     planned: &mut Vec<Option<PlannedSite>>,
     input: &PlannerInput,
@@ -120,7 +121,7 @@ fn note_span(
     }
 }
 
-/// Records the spots of the cells of all spans.
+/// Records the sites of the cells of all spans.
 fn note_spans(planned: &mut Vec<Option<PlannedSite>>, input: &PlannerInput, segments: &[PackedSpan])
     requires { IsFilledTo input.now.free_rows.now.spans.items input.now.cells.now 0 0 planned.old.items }
     ensures plan { IsPlan input.now.free_rows.now.spans.items input.now.cells.now planned.new.items }
@@ -131,22 +132,22 @@ fn note_spans(planned: &mut Vec<Option<PlannedSite>>, input: &PlannerInput, segm
     }
 }
 
-/// The spot of each cell. The list of the state's spots is used again.
+/// The site of each cell. The list of the state's sites is used again.
 pub(crate) fn spots_of(
     input: &PlannerInput,
     board: PlanState,
 ) -> Result<Vec<Option<PlannedSite>>, AllocError>
-    ensures plan { IfOk result (λ spots. IsPlan input.now.free_rows.now.spans.items input.now.cells.now spots.items) }
-    ensures count { IfOk result (λ spots. vec_len spots ≡ length input.now.cells.now) }
+    ensures plan { IfOk result (λ planned_sites. IsPlan input.now.free_rows.now.spans.items input.now.cells.now planned_sites.items) }
+    ensures count { IfOk result (λ planned_sites. vec_len planned_sites ≡ length input.now.cells.now) }
 {
     let PlanState {
         segments,
-        planned: mut spots,
+        planned: mut planned_sites,
     } = board;
-    spots.clear();
-    spots.resize(input.cells.len(), None)?;
-    note_spans(&mut spots, input, segments.as_slice());
-    Ok(spots)
+    planned_sites.clear();
+    planned_sites.resize(input.cells.len(), None)?;
+    note_spans(&mut planned_sites, input, segments.as_slice());
+    Ok(planned_sites)
 }
 
 /// The least distance of two consecutive rows. 1 if there are no two rows.
@@ -171,17 +172,17 @@ fn first_order(alloc: Global, input: &PlannerInput) -> Result<Vec<u32>, AllocErr
     let limits = initial_limits(input.height);
     let mut curve = CostCurve::new(alloc);
     let mut keys = OrderKeys::with_capacity(alloc, input)?;
-    for (number, wish) in input.cells.iter().enumerate() {
+    for (number, planner_cell) in input.cells.iter().enumerate() {
         let number = number_of(number);
         let away = nearest_alone(
             input,
             segments.as_slice(),
             number,
-            wish,
+            planner_cell,
             &limits,
             &mut curve,
         )?;
-        keys.push(number, wish, away)?;
+        keys.push(number, planner_cell, away)?;
     }
     drop(segments);
     keys.into_order(alloc)
@@ -190,12 +191,12 @@ fn first_order(alloc: Global, input: &PlannerInput) -> Result<Vec<u32>, AllocErr
 /// A plan moves a cell far if its displacement is more than this number of rows.
 const FAR: i64 = 8;
 
-/// Whether a plan leaves a cell without a spot, or moves one far.
+/// Whether a plan leaves a cell without a site, or moves one far.
 fn goes_far(worth: &PlanCost, height: u32) -> bool {
     0 < worth.left || FAR * (height as i64) < worth.longest
 }
 
-/// The spots of the better of two plans; of the first if their costs are equal.
+/// The sites of the better of two plans; of the first if their costs are equal.
 fn better(first: ScoredPlan, second: ScoredPlan) -> Vec<Option<PlannedSite>>
     ensures { (result ≡ first.planned) ⊎ (result ≡ second.planned) }
 {
@@ -209,7 +210,7 @@ fn better(first: ScoredPlan, second: ScoredPlan) -> Vec<Option<PlannedSite>>
 /// Plans a place for each cell: all in turn, then passes, then rounds over the cells with the
 /// longest displacements, then exchanges of two cells. That may leave a cell without a place or
 /// move one far. Then, if `two_orders` is set, it plans again with the widest cells first, and
-/// returns the better plan. A cell without a spot found no room. Each cell that has one lies within
+/// returns the better plan. A cell without a site found no room. Each cell that has one lies within
 /// its span there, and two cells of one span lie apart. `Err` if an allocation fails.
 pub fn plan_cells(
     alloc: Global,
@@ -217,8 +218,8 @@ pub fn plan_cells(
     cells: &[PlannerCell],
     options: &PlanOptions,
 ) -> Result<Vec<Option<PlannedSite>>, AllocError>
-    ensures plan { IfOk result (λ spots. IsPlan free_rows.now.spans.items cells.now spots.items) }
-    ensures count { IfOk result (λ spots. vec_len spots ≡ length cells.now) }
+    ensures plan { IfOk result (λ planned_sites. IsPlan free_rows.now.spans.items cells.now planned_sites.items) }
+    ensures count { IfOk result (λ planned_sites. vec_len planned_sites ≡ length cells.now) }
 {
     let height = row_height(free_rows);
     let rows = rows_of_spans(alloc, free_rows)?;

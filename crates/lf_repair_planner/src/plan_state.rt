@@ -130,13 +130,13 @@ impl PlanState {
 
     /// Inserts a cell, of one row or several, in a gap that was found for it.
     pub(crate) fn put_cell(&mut self, input: &PlannerInput, gap: &Gap) -> Result<(), AllocError> {
-        let Some(wish) = input.cells.get(gap.cell.number as usize) else {
+        let Some(planner_cell) = input.cells.get(gap.cell.number as usize) else {
             return Ok(());
         };
-        if wish.rows <= 1 {
+        if planner_cell.rows <= 1 {
             return self.put(gap);
         }
-        for up in 0..wish.rows {
+        for up in 0..planner_cell.rows {
             if let Some(covered) = span_above(input, gap, up) {
                 if let Some(segment) = self.segments.get_mut(covered.span) {
                     let own = gap_at(segment, &gap.cell, gap.aim, covered.shift);
@@ -150,11 +150,11 @@ impl PlanState {
 
     /// Removes the cell of a gap, of one row or several.
     pub(crate) fn take_cell(&mut self, input: &PlannerInput, gap: &Gap) {
-        let Some(wish) = input.cells.get(gap.cell.number as usize) else {
+        let Some(planner_cell) = input.cells.get(gap.cell.number as usize) else {
             return;
         };
         self.set_place(gap.cell.number, None);
-        for up in 0..wish.rows {
+        for up in 0..planner_cell.rows {
             if let Some(covered) = span_above(input, gap, up) {
                 if let Some(segment) = self.segments.get_mut(covered.span) {
                     let listed = cell_in(&gap.cell, &covered, up);
@@ -175,11 +175,16 @@ impl PlanState {
         reach: i64,
     ) -> Result<PlanState, AllocError> {
         let mut state = PlanState::new(alloc, input.free_rows, input.cells.len())?;
-        for (number, (wish, spot)) in input.cells.iter().zip(planned.iter()).enumerate() {
-            let Some(spot) = spot else {
+        for (number, (planner_cell, planned_site)) in input
+            .cells
+            .iter()
+            .zip(planned.iter())
+            .enumerate()
+        {
+            let Some(planned_site) = planned_site else {
                 continue;
             };
-            let span = spot.span as usize;
+            let span = planned_site.span as usize;
             let (Some(sites), Some(row), Some(segment)) = (
                 input.free_rows.spans.get(span),
                 input.row_of(span),
@@ -188,17 +193,18 @@ impl PlanState {
                 continue;
             };
             let number = number_of(number);
-            let Some(cell) = placed_at(number, wish, sites, row.y, spot.at, reach) else {
+            let Some(cell) = placed_at(number, planner_cell, sites, row.y, planned_site.at, reach)
+            else {
                 continue;
             };
-            if reach < displacement_at_site(wish, sites, row.y, spot.at) {
+            if reach < displacement_at_site(planner_cell, sites, row.y, planned_site.at) {
                 continue;
             }
             let gap = Gap {
                 span,
-                gap: gap_at(segment, &cell, spot.at, 0),
+                gap: gap_at(segment, &cell, planned_site.at, 0),
                 cell,
-                aim: spot.at,
+                aim: planned_site.at,
             };
             state.put_cell(input, &gap)?;
         }

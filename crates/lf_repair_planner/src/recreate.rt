@@ -74,10 +74,12 @@ struct TryLimits {
 
 /// The cost of a cell's displacement at a place.
 fn cost_at(input: &PlannerInput, number: u32, place: Option<Gap>, limits: &SearchLimits) -> i64 {
-    let (Some(wish), Some(gap)) = (input.cells.get(number as usize), place) else {
+    let (Some(planner_cell), Some(gap)) = (input.cells.get(number as usize), place) else {
         return NO_PLACE;
     };
-    cost_of(displacement_at(input, wish, &gap), limits).saturating_mul(wish.factor as i64)
+    cost_of(displacement_at(input, planner_cell, &gap), limits).saturating_mul(
+        planner_cell.factor as i64,
+    )
 }
 
 /// The cost of all cells.
@@ -99,7 +101,7 @@ fn add_tried(
     work: &mut Workspace,
 ) -> Result<(), AllocError> {
     let area = match input.cells.get(number as usize) {
-        Some(wish) => (wish.width as u64).saturating_mul(wish.rows as u64),
+        Some(planner_cell) => (planner_cell.width as u64).saturating_mul(planner_cell.rows as u64),
         None => 0,
     };
     let key = if by_size {
@@ -176,14 +178,14 @@ fn find_gap(
         cost: limit,
         gap: None,
     };
-    let Some(wish) = input.cells.get(number as usize) else {
+    let Some(planner_cell) = input.cells.get(number as usize) else {
         return Ok(none);
     };
     let search = Search {
         free_rows: input.free_rows,
         segments: state.segments.as_slice(),
         number,
-        wish,
+        planner_cell,
         limits: &limits.search,
         height: input.height,
         exact: true,
@@ -343,8 +345,8 @@ fn reach_of(
 ) -> i64 {
     let reach = options.reach.unwrap_or(i64::MAX);
     let mut longest = 0;
-    for (wish, start) in input.cells.iter().zip(starts.iter()) {
-        match displacement_at_start(input, wish, *start) {
+    for (planner_cell, start) in input.cells.iter().zip(starts.iter()) {
+        match displacement_at_start(input, planner_cell, *start) {
             Some(displacement) => longest = longest.max(displacement),
             None => return reach,
         }
@@ -394,8 +396,8 @@ pub fn recreate_plan(
     starts: &[Option<PlannedSite>],
     options: &RecreateOptions<'_>,
 ) -> Result<Vec<Option<PlannedSite>>, AllocError>
-    ensures plan { IfOk result (λ spots. IsPlan free_rows.now.spans.items cells.now spots.items) }
-    ensures count { IfOk result (λ spots. vec_len spots ≡ length cells.now) }
+    ensures plan { IfOk result (λ planned_sites. IsPlan free_rows.now.spans.items cells.now planned_sites.items) }
+    ensures count { IfOk result (λ planned_sites. vec_len planned_sites ≡ length cells.now) }
 {
     let rows = rows_of_spans(alloc, free_rows)?;
     let input = PlannerInput {

@@ -22,7 +22,7 @@ pub(crate) struct Search<'a> {
     pub(crate) free_rows: &'a FreeRows,
     pub(crate) segments: &'a [PackedSpan],
     pub(crate) number: u32,
-    pub(crate) wish: &'a PlannerCell,
+    pub(crate) planner_cell: &'a PlannerCell,
     pub(crate) limits: &'a SearchLimits,
     /// The distance of adjacent rows.
     pub(crate) height: u32,
@@ -146,20 +146,27 @@ fn cell_at(
 /// the span's end.
 pub(crate) fn placed_at(
     number: u32,
-    wish: &PlannerCell,
+    planner_cell: &PlannerCell,
     sites: &FreeSpan,
     y: i32,
     at: u32,
     reach: i64,
 ) -> Option<PackedCell> {
     let pitch = sites.pitch();
-    let width = sites_of(wish, pitch);
+    let width = sites_of(planner_cell, pitch);
     let last = (sites.count as i64).saturating_sub(width);
     if last < at as i64 {
         return None;
     }
-    let target = span_target(sites, wish.x, last, true);
-    let cell = cell_at(number, width, &target, pitch, apart(y, wish.y), reach);
+    let target = span_target(sites, planner_cell.x, last, true);
+    let cell = cell_at(
+        number,
+        width,
+        &target,
+        pitch,
+        apart(y, planner_cell.y),
+        reach,
+    );
     Some(PackedCell { at, ..cell })
 }
 
@@ -173,14 +180,14 @@ fn try_of(
     best: &Best,
 ) -> Option<SpanCandidate> {
     let pitch = sites.pitch();
-    let width = sites_of(search.wish, pitch);
+    let width = sites_of(search.planner_cell, pitch);
     let last = (sites.count as i64).saturating_sub(width);
     if last < 0 {
         return None;
     }
-    let target = span_target(sites, search.wish.x, last, search.exact);
+    let target = span_target(sites, search.planner_cell.x, last, search.exact);
     let outside = target.outside.div_euclid(pitch);
-    let factor = search.wish.factor as i64;
+    let factor = search.planner_cell.factor as i64;
     let row = cost_of(dy, search.limits);
     let left = sites_left(
         best,
@@ -219,7 +226,7 @@ fn try_of(
             near: clipped(near.saturating_sub(outside)),
             weight: search.limits.weight,
             pitch: clipped(pitch),
-            factor: search.wish.factor,
+            factor: search.planner_cell.factor,
         },
         base: row.saturating_add(in_row).saturating_mul(factor),
     })
@@ -293,11 +300,11 @@ fn try_span(
     else {
         return Ok(());
     };
-    let dy = apart(y, search.wish.y);
+    let dy = apart(y, search.planner_cell.y);
     let Some(tried) = try_of(search, span, sites, dy, best) else {
         return Ok(());
     };
-    if 1 < search.wish.rows {
+    if 1 < search.planner_cell.rows {
         return try_tall_span(search, &tried, y, best, curve);
     }
     if !segment.has_room(tried.cell.width) {
@@ -313,7 +320,7 @@ fn is_beyond(search: &Search, dy: i64, dx: i64, best: &Best) -> bool {
         return true;
     }
     let way = cost_of(dy, search.limits).saturating_add(dx);
-    best.cost <= way.saturating_mul(search.wish.factor as i64)
+    best.cost <= way.saturating_mul(search.planner_cell.factor as i64)
 }
 
 /// Tries a row: its spans from the target's x to the right, and then to the left.
@@ -324,10 +331,13 @@ fn try_row(
     curve: &mut CostCurve,
 ) -> Result<(), AllocError> {
     let spans = search.free_rows.spans.as_slice();
-    if row.last < row.first || spans.len() < row.last || !search.wish.kinds.has(row.kind) {
+    if row.last < row.first || spans.len() < row.last || !search.planner_cell.kinds.has(row.kind) {
         return Ok(());
     }
-    let (x, dy) = (search.wish.x as i64, apart(row.y, search.wish.y));
+    let (x, dy) = (
+        search.planner_cell.x as i64,
+        apart(row.y, search.planner_cell.y),
+    );
     let middle = row.first + spans[row.first..row.last].partition_point(|span| span.end() <= x);
     for span in middle..row.last {
         if is_beyond(search, dy, spans[span].first as i64 - x, best) {
@@ -357,14 +367,14 @@ fn row_away(rows: &[PlannerRow], position: usize, y: i32) -> i64 {
 /// too much.
 fn next_row(search: &Search, above: usize, below: usize, best: &Best) -> Option<usize> {
     let rows = search.free_rows.rows.as_slice();
-    let up = row_away(rows, above, search.wish.y);
+    let up = row_away(rows, above, search.planner_cell.y);
     if below == 0 {
         if is_beyond(search, up, 0, best) {
             return None;
         }
         return Some(above);
     }
-    let down = row_away(rows, below - 1, search.wish.y);
+    let down = row_away(rows, below - 1, search.planner_cell.y);
     if is_beyond(search, up.min(down), 0, best) {
         return None;
     }
@@ -386,7 +396,7 @@ pub(crate) fn best_gap(
         cost: limit,
         gap: None,
     };
-    let mut above = rows.partition_point(|row| row.y < search.wish.y);
+    let mut above = rows.partition_point(|row| row.y < search.planner_cell.y);
     let mut below = above;
     for _ in 0..rows.len() {
         let Some(next) = next_row(search, above, below, &best) else {

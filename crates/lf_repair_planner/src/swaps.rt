@@ -25,7 +25,7 @@ struct SpanOfRow {
 /// A cell at its place: its position among the cells of its span, and its displacement.
 #[derive(Clone, Copy)]
 struct PlacedCell {
-    wish: PlannerCell,
+    planner_cell: PlannerCell,
     along: SpanOfRow,
     position: usize,
     cell: PackedCell,
@@ -46,17 +46,17 @@ fn displacement_along(cell: &PlannerCell, along: &SpanOfRow, at: u32) -> i64 {
 
 /// The cell of a span at this position, with its target.
 fn placed_at(
-    wish: &PlannerCell,
+    planner_cell: &PlannerCell,
     along: &SpanOfRow,
     position: usize,
     cell: &PackedCell,
 ) -> PlacedCell {
     PlacedCell {
-        wish: *wish,
+        planner_cell: *planner_cell,
         along: *along,
         position,
         cell: *cell,
-        displacement: displacement_along(wish, along, cell.at),
+        displacement: displacement_along(planner_cell, along, cell.at),
     }
 }
 
@@ -72,25 +72,25 @@ fn span_of_row(input: &PlannerInput, span: usize) -> Option<SpanOfRow> {
 /// The cell with this number at its place. `None` if it has no place.
 fn placed_cell(input: &PlannerInput, board: &PlanState, number: u32) -> Option<PlacedCell> {
     let place = board.place_of(number)?;
-    let wish = input.cells.get(number as usize)?;
+    let planner_cell = input.cells.get(number as usize)?;
     let along = span_of_row(input, place.span)?;
-    Some(placed_at(wish, &along, place.gap, &place.cell))
+    Some(placed_at(planner_cell, &along, place.gap, &place.cell))
 }
 
 /// Whether two cells may exchange their places: they differ, are equally wide, and may be placed on
 /// the rows of each other.
 fn may_exchange(one: &PlacedCell, other: &PlacedCell) -> bool {
     one.cell.number != other.cell.number
-        && one.wish.width == other.wish.width
-        && one.wish.kinds.has(other.along.row.kind)
-        && other.wish.kinds.has(one.along.row.kind)
+        && one.planner_cell.width == other.planner_cell.width
+        && one.planner_cell.kinds.has(other.along.row.kind)
+        && other.planner_cell.kinds.has(one.along.row.kind)
 }
 
 /// By how much an exchange of two cells lowers their cost. 0 if the longer displacement would grow
 /// beyond `how.near`.
 fn gain_of(one: &PlacedCell, other: &PlacedCell, limits: &SearchLimits) -> i64 {
-    let first = displacement_along(&one.wish, &other.along, other.cell.at);
-    let second = displacement_along(&other.wish, &one.along, one.cell.at);
+    let first = displacement_along(&one.planner_cell, &other.along, other.cell.at);
+    let second = displacement_along(&other.planner_cell, &one.along, one.cell.at);
     let longest = one.displacement.max(other.displacement).max(limits.near);
     if longest < first.max(second) {
         return 0;
@@ -119,23 +119,28 @@ fn try_exchange(one: &PlacedCell, other: &PlacedCell, limits: &SearchLimits, bes
 
 /// Tries an exchange with each cell of a span that is within reach of the cell's target.
 fn try_span(
-    wishes: &[PlannerCell],
+    planner_cells: &[PlannerCell],
     along: &SpanOfRow,
     cells: &[PackedCell],
     one: &PlacedCell,
     limits: &SearchLimits,
     best: &mut Exchange,
 ) {
-    let target = site_at(&along.sites, one.wish.x);
+    let target = site_at(&along.sites, one.planner_cell.x);
     let (low, high) = (target.saturating_sub(REACH), target.saturating_add(REACH));
     let begin = cells.partition_point(|cell| (cell.at as i64) < low);
     for (away, cell) in cells[begin..].iter().enumerate() {
         if high < cell.at as i64 {
             return;
         }
-        if let Some(wish) = wishes.get(cell.number as usize) {
+        if let Some(planner_cell) = planner_cells.get(cell.number as usize) {
             let position = begin.saturating_add(away);
-            try_exchange(one, &placed_at(wish, along, position, cell), limits, best);
+            try_exchange(
+                one,
+                &placed_at(planner_cell, along, position, cell),
+                limits,
+                best,
+            );
         }
     }
 }
@@ -154,7 +159,7 @@ fn try_row(
         .spans
         .get(row.first..row.last)
         .unwrap_or(&[]);
-    let after = spans.partition_point(|span| span.first <= one.wish.x);
+    let after = spans.partition_point(|span| span.first <= one.planner_cell.x);
     let span = row.first.saturating_add(after.saturating_sub(1));
     let (Some(sites), Some(segment)) = (input.free_rows.spans.get(span), board.segments.get(span))
     else {
@@ -180,7 +185,7 @@ fn best_exchange(
         other: None,
     };
     let rows = input.free_rows.rows.as_slice();
-    let above = rows.partition_point(|row| row.y < one.wish.y);
+    let above = rows.partition_point(|row| row.y < one.planner_cell.y);
     let last = above.saturating_add(2).min(rows.len());
     let near = rows.get(above.saturating_sub(1)..last).unwrap_or(&[]);
     for row in near {
@@ -210,7 +215,7 @@ fn put_at_place(board: &mut PlanState, cell: &PlacedCell, place: &PlacedCell) {
     let number = cell.cell.number;
     let along = &place.along;
     let last = (along.sites.count as i64).saturating_sub(place.cell.width as i64);
-    let wanted = site_at(&along.sites, cell.wish.x).min(last);
+    let wanted = site_at(&along.sites, cell.planner_cell.x).min(last);
     if let Some(segment) = board.segments.get_mut(along.span) {
         replace_in(segment, place.position, number, clipped(wanted));
     }

@@ -109,7 +109,7 @@ fn sites_near(search: &Search, tried: &SpanCandidate, row_y: i32, aim: u32) -> O
         low: wanted - reach,
         high: wanted + reach,
     };
-    for up in 0..search.wish.rows {
+    for up in 0..search.planner_cell.rows {
         let (segment, gap) = row_gap(search, tried, row_y, aim, up)?;
         if segment.len() < gap.gap {
             return None;
@@ -135,7 +135,7 @@ fn try_aim(
         return Ok(());
     };
     curve.begin(clipped(sites.low), clipped(sites.high), tried.effort.pitch);
-    for up in 0..search.wish.rows {
+    for up in 0..search.planner_cell.rows {
         if let Some((segment, gap)) = row_gap(search, tried, row_y, aim, up) {
             if gap.gap <= segment.len() {
                 segment.add_pushed(&gap, &sites, curve)?;

@@ -27,7 +27,7 @@ fn random_window(
     place: Option<Gap>,
     random: &mut Scramble,
 ) -> Option<Window> {
-    let wish = input.cells.get(number as usize)?;
+    let planner_cell = input.cells.get(number as usize)?;
     let around_place = random.below(2) == 0;
     let sites = LEAST_SITES + random.below(2 * LEAST_SITES);
     let pitch = input.free_rows.spans.first()?.pitch();
@@ -44,15 +44,15 @@ fn random_window(
         }
     }
     Some(Window {
-        x: wish.x as i64,
-        y: wish.y as i64,
+        x: planner_cell.x as i64,
+        y: planner_cell.y as i64,
         half,
     })
 }
 
 /// Lists the cells of a span that begin in the window, each once, and not the cell with this number.
 fn list_cells(
-    wishes: &[PlannerCell],
+    planner_cells: &[PlannerCell],
     sites: &FreeSpan,
     cells: &[PackedCell],
     window: &Window,
@@ -68,8 +68,8 @@ fn list_cells(
         if high < cell.at as i64 {
             return Ok(());
         }
-        let (listed, rows) = match wishes.get(cell.number as usize) {
-            Some(wish) => (cell.number, wish.rows),
+        let (listed, rows) = match planner_cells.get(cell.number as usize) {
+            Some(planner_cell) => (cell.number, planner_cell.rows),
             None => (upper_number(cell.number), 2),
         };
         if listed == number || (1 < rows && pool.contains(&listed)) {

@@ -378,7 +378,7 @@ fn has_no_work(input: &RepairInput, need: &ProblemCells, reach: &Neighborhood) -
         Neighborhood::Near { .. } => need.points.len() == 0,
         Neighborhood::All => need.left == 0,
         Neighborhood::Whole => {
-            !matches!(input.how, MovePolicy::MoveAll) || !input.legal.contains(&false)
+            !matches!(input.policy, MovePolicy::MoveAll) || !input.legal.contains(&false)
         }
     }
 }

@@ -49,7 +49,7 @@ impl Pass {
 /// first pass. The target of each cell in the first pass is its own place.
 #[derive(Drop)]
 pub struct RepairInput {
-    pub how: MovePolicy,
+    pub policy: MovePolicy,
     pub legal: Vec<bool>,
     pub pass: Pass,
 }

@@ -267,7 +267,7 @@ pub(crate) fn row_height(frame: &Frame) -> u32 {
 }
 
 /// The improved places of cells that have places on these free rows.
-fn improved_spots(
+fn improved_sites(
     alloc: Global,
     placement: &Placement,
     search: &RepairSearch<'_>,
@@ -294,7 +294,7 @@ fn improved_spots(
     )
 }
 
-/// The spots of a plan for the cells at these positions, row by row from left to right.
+/// The sites of a plan for the cells at these positions, row by row from left to right.
 pub(crate) fn planned_cells(
     alloc: Global,
     owns: &[u32],
@@ -329,7 +329,7 @@ fn plan_with_tall(
     let free_rows = free_rows_without(alloc, placement, team, loose.as_slice())?;
     cells.starts = same_sites(alloc, cells.starts.as_slice(), first, &free_rows)?;
     push_tall_cells(alloc, placement, team, pass, search, &free_rows, &mut cells)?;
-    let planned = improved_spots(alloc, placement, search, &free_rows, &cells)?;
+    let planned = improved_sites(alloc, placement, search, &free_rows, &cells)?;
     Ok(TeamPlan {
         stops: planned_cells(alloc, cells.owns.as_slice(), planned.as_slice())?,
         free_rows,
@@ -355,7 +355,7 @@ pub(crate) fn team_plan(
         if may_move_tall(placement, team.team, pass) {
             return plan_with_tall(alloc, placement, team, pass, search, &free_rows, cells);
         }
-        cells.starts = improved_spots(alloc, placement, search, &free_rows, &cells)?;
+        cells.starts = improved_sites(alloc, placement, search, &free_rows, &cells)?;
     }
     Ok(TeamPlan {
         stops: planned_cells(alloc, cells.owns.as_slice(), cells.starts.as_slice())?,

@@ -23,7 +23,7 @@ fn has_legal_half(input: &RepairInput) -> bool {
             legal = legal.saturating_add(1);
         }
     }
-    if matches!(input.how, MovePolicy::KeepLegal) || input.legal.len() == legal {
+    if matches!(input.policy, MovePolicy::KeepLegal) || input.legal.len() == legal {
         return false;
     }
     input.legal.len() <= legal.saturating_mul(2)
@@ -91,7 +91,7 @@ fn tries_of(search: &RepairSearch<'_>, cells: usize, faulty: usize) -> u32 {
 }
 
 /// The places of the cells of one row's height after tries around those that were not legal.
-fn window_spots(
+fn window_sites(
     alloc: Global,
     placement: &Placement,
     team: &PaddedTeam,
@@ -180,7 +180,7 @@ pub fn plan_window_pass(
     let loose = loose_cells(alloc, placement, team.team, &open)?;
     let free_rows = free_rows_without(alloc, placement, team, loose.as_slice())?;
     let cells = low_cells(alloc, placement, team, &open)?;
-    let planned = window_spots(alloc, placement, team, input, search, &free_rows, &cells)?;
+    let planned = window_sites(alloc, placement, team, input, search, &free_rows, &cells)?;
     let owns = cells.owns.as_slice();
     match pass_of_moves(
         alloc,

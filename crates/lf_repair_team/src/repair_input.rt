@@ -130,14 +130,14 @@ pub fn team_input<S: Seeker + Drop>(
         AreWorkingPlaces s.cells start.pass.targets.items) }
     ensures flagged { IfOk result (λ start.
         AreListedFlags impossible.now team.now floor.now start.pass.impossible.items) }
-    ensures policy { IfOk result (λ start. start.how ≡ policy) }
+    ensures policy { IfOk result (λ start. start.policy ≡ policy) }
 {
     let legal = legal_of(alloc, floor, number)?;
     let marks = initial_locks(alloc, legal.as_slice())?;
     let flags = listed_of(alloc, floor, team, number, impossible)?;
     let targets = working_places(alloc, floor.placement(), number)?;
     Ok(RepairInput {
-        how: policy,
+        policy,
         legal,
         pass: Pass {
             locked: marks,

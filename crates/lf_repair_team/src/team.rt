@@ -480,7 +480,7 @@ fn run_passes<S: Seeker + Drop, K: Sink>(
         IsRunWithCutLine l session.now.team.now floor.old (K.contents lines.old) (K.contents lines.new) floor.new) }
     ensures only { ChangesOnly session.now.team.now floor.old floor.new }
     ensures committed { KeepsCommittedAndSettings session.now.team.now session.now.session floor.old floor.new }
-    ensures marked { input.now.how ≡ KeepLegal
+    ensures marked { input.now.policy ≡ KeepLegal
         → AreLockedInPlace session.now.team.now input.now.pass.locked.items input.now.pass.targets.items floor.old
         → KeepsLockedPlaces session.now.team.now input.now.pass.locked.items floor.old floor.new }
     ensures unmoved { AreFlaggedAtTargets session.now.team.now session.now.impossible.now input.now.pass.targets.items
@@ -506,7 +506,7 @@ fn run_passes<S: Seeker + Drop, K: Sink>(
         Ok(unrepaired) => unrepaired,
         Err(fault) => return Err(fault),
     };
-    if !may_legal_move(input.how) {
+    if !may_legal_move(input.policy) {
         return Ok(unrepaired);
     }
     run_local_passes(alloc, floor, session, input, search, unrepaired, lines)
@@ -528,7 +528,7 @@ fn repair_in_session<'a, S: Seeker + Drop, K: Sink>(
     ensures err { (l : Legalizer) → OnErr result (
         IsRunWithCutLine l team.now floor.old (K.contents lines.old) (K.contents lines.new) floor.new) }
     ensures only { ChangesOnly team.now floor.old floor.new }
-    ensures marked { input.now.how ≡ KeepLegal
+    ensures marked { input.now.policy ≡ KeepLegal
         → AreLockedInPlace team.now input.now.pass.locked.items input.now.pass.targets.items floor.old
         → KeepsLockedPlaces team.now input.now.pass.locked.items floor.old floor.new }
     ensures unmoved { AreFlaggedAtTargets team.now input.now.pass.impossible.items input.now.pass.targets.items
@@ -557,18 +557,18 @@ fn repair_in_session<'a, S: Seeker + Drop, K: Sink>(
         Ok(session) => session,
         Err(fault) => return Err(fault),
     };
-    let seat = TeamSession {
+    let team_session = TeamSession {
         team,
         number,
         session,
         impossible: input.pass.impossible.as_slice(),
     };
-    let unrepaired = match run_passes(alloc, floor, &seat, input, search, lines) {
+    let unrepaired = match run_passes(alloc, floor, &team_session, input, search, lines) {
         Ok(unrepaired) => unrepaired,
         Err(fault) => return Err(fault),
     };
     let targets = input.pass.targets.as_slice();
-    finish(alloc, floor, &seat, targets, unrepaired, lines)
+    finish(alloc, floor, &team_session, targets, unrepaired, lines)
 }
 
 /// Repairs a team: moves its cells that break a rule or have no place to legal places.

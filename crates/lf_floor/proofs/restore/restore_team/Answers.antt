@@ -76,4 +76,4 @@ returns-clause-awaits c = λ other apart awaits.
     let mid : Tables = record old { placement = c.restore_entries.new.placement; undo = c.restore_entries.new.undo } in
     still_awaits other c.args.counts.now c.restore_entries.new.counts old mid c.set_numbers.new.tables c.in_ok-restore_entries.ensures.cells
     (c.in_ok-restore_entries.ensures.others.stacks other apart) c.set_numbers.ensures.placement c.set_numbers.ensures.undo
-    (λ at bounds. c.in_ok-restore_entries.ensures.tally at other apart bounds) awaits
+    (λ at bounds. c.in_ok-restore_entries.ensures.counts at other apart bounds) awaits

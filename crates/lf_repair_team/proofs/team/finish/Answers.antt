@@ -38,7 +38,7 @@ returns-in-Ok-close-clause-unrepaired g c = λ reach are.
     unrepaired_through reach c.args.targets.now team c.args.session.now.impossible.now c.commit_if_clean.new.floor c.close.new.floor left c.in-Ok-close.ensures.only.frame c.in-Ok-close.ensures.cells
     (unrepaired_committed reach c.args.targets.now team c.args.session.now.impossible.now c.args.floor.now c.commit_if_clean.new.floor c.as_slice.result.now left c.as_slice.ensures.value
     c.in-Ok-commit_if_clean.ensures.kept l (c.in-Ok-commit_if_clean.ensures.committed l)
-    (subst (λ (xs : List ℕ). AreUnrepaired reach c.args.targets.now team c.args.session.now.impossible.now c.args.floor.now xs) (sym c.in-Ok.ensures.left) are))
+    (subst (λ (xs : List ℕ). AreUnrepaired reach c.args.targets.now team c.args.session.now.impossible.now c.args.floor.now xs) (sym c.in-Ok.ensures.unrepaired) are))
 
 pub returns-in-Ok-close-clause-committed : goal.returns-in-Ok-close-clause-committed
 returns-in-Ok-close-clause-committed g c = λ l none.

@@ -18,14 +18,14 @@ items_same v w same = ap (λ (u : Vec ℕ Global). u.items) same
 pub returns-in-Ok-repair_in_session-clause-kept : goal.returns-in-Ok-repair_in_session-clause-kept
 returns-in-Ok-repair_in_session-clause-kept g c = λ keep own legal.
     let flags = c.in-Ok.ensures.marked c.args.team.now (sym c.team_number.ensures ∙ c.in-Some.is) in
-    c.in-Ok-repair_in_session.ensures.marked (c.in-Ok.ensures.how ∙ keep)
+    c.in-Ok-repair_in_session.ensures.marked (c.in-Ok.ensures.policy ∙ keep)
     (locked_at_start c.args.team.now c.args.floor.now c.in-Some.number c.in-Ok.input.pass.locked.items c.in-Ok.input.pass.targets.items (sym c.team_number.ensures ∙ c.in-Some.is)
     c.in-Ok.ensures.targets (λ k mark. flags.only legal.state legal.there k mark)) own (flags.legal own legal)
 
 pub returns-clause-kept : goal.returns-clause-kept
 returns-clause-kept g c = λ keep own legal.
     let flags = c.in-Ok.ensures.marked c.args.team.now (sym c.team_number.ensures ∙ c.in-Some.is) in
-    c.in-Err.ensures.marked (c.in-Ok.ensures.how ∙ keep)
+    c.in-Err.ensures.marked (c.in-Ok.ensures.policy ∙ keep)
     (locked_at_start c.args.team.now c.args.floor.now c.in-Some.number c.in-Ok.input.pass.locked.items c.in-Ok.input.pass.targets.items (sym c.team_number.ensures ∙ c.in-Some.is)
     c.in-Ok.ensures.targets (λ k mark. flags.only legal.state legal.there k mark)) own (flags.legal own legal)
 
