@@ -12,13 +12,14 @@ use lf_placement::Placement;
 use lf_wire_length::{HalfPoint, Netlist, PinOffset, PinRow, point_of_cell_pin};
 use std::alloc::{AllocError, Global};
 
-/// What the nets of a team refer to: the placement, the netlist, the number of the team, and its
-/// cells that may move.
+/// What the nets of a team refer to: the placement, the netlist, the number of the team, the new
+/// places of its cells, and those that may still move.
 #[derive(Clone, Copy)]
 pub(crate) struct NetSource<'a> {
     pub(crate) placement: &'a Placement,
     pub(crate) netlist: &'a Netlist,
     pub(crate) team: usize,
+    pub(crate) moved: &'a [Option<Place>],
     pub(crate) movable: &'a MovableCells,
 }
 
@@ -69,6 +70,7 @@ fn is_of_team(id: CellId, team: usize) -> bool {
 fn pin_of_cell(source: &NetSource<'_>, cell: u32, row: u32) -> Option<BoardPin> {
     let cells = source.placement.cells();
     let id = *cells.cell_ids().get(cell as usize)?;
+    let mut place = cells.working(id)?;
     if is_of_team(id, source.team) {
         if let Some(position) = source.movable.position_of(id.own) {
             return Some(BoardPin::OfCell {
@@ -76,9 +78,11 @@ fn pin_of_cell(source: &NetSource<'_>, cell: u32, row: u32) -> Option<BoardPin> 
                 offsets: row,
             });
         }
+        if let Some(Some(moved)) = source.moved.get(id.own as usize) {
+            place = *moved;
+        }
     }
     let offset = source.netlist.row(row)?;
-    let place = cells.working(id)?;
     Some(BoardPin::Fixed(board_point(&point_of_cell_pin(&place, &offset))))
 }
 
