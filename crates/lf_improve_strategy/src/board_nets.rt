@@ -5,7 +5,6 @@ ghost use Rattle.lf_wire_length.specs.Bounds.{IsPinOffset};
 
 use crate::movable::MovableCells;
 use crate::nets_on_board::{BoardNets, BoardPin, BoardPoint, OrientedOffsets};
-use lf_cells::CellId;
 use lf_floorplan::Place;
 use lf_orient::Orient;
 use lf_placement::Placement;
@@ -60,18 +59,13 @@ fn push_all_offsets(netlist: &Netlist, nets: &mut BoardNets) -> Result<(), Alloc
     Ok(())
 }
 
-/// Whether the cell is of the team with this number.
-fn is_of_team(id: CellId, team: usize) -> bool {
-    id.team as usize == team
-}
-
 /// The pin in this row of the cell of this number: it moves with its cell if the cell may move,
 /// otherwise it is where the cell is. `None` if the cell is unplaced, or there is none.
 fn pin_of_cell(source: &NetSource<'_>, cell: u32, row: u32) -> Option<BoardPin> {
     let cells = source.placement.cells();
     let id = *cells.cell_ids().get(cell as usize)?;
     let mut place = cells.working(id)?;
-    if is_of_team(id, source.team) {
+    if id.team as usize == source.team {
         if let Some(position) = source.movable.position_of(id.own) {
             return Some(BoardPin::OfCell {
                 cell: position,

@@ -264,7 +264,8 @@ fn push_footprint(
         kind: row.kind,
         first,
         last,
-    })
+    })?;
+    Ok(())
 }
 
 /// The sites that cells cover in their lowest rows: a span for each cell.
