@@ -47,7 +47,7 @@
 //! From `crates/lf_improve_team/src/team.rt`:
 //!
 //! ```
-//! improvement_edits(alloc, placement, &owner, wires, options, search)
+//! improvement_edits(alloc, placement, &team, attempt.wires, options, attempt.search)
 //! ```
 #![tactic(auto)]
 
