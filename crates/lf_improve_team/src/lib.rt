@@ -17,7 +17,7 @@
 //! From `crates/lf_task_improve/src/improving.rt`:
 //!
 //! ```
-//! let goal = ImproveWish {
+//! let goal = ImproveGoal {
 //!     options: plan.options,
 //!     length,
 //! };
@@ -36,4 +36,4 @@ pub use cells_on_floor::CellsOnFloor;
 pub use laws::{wire_length_is_one, working_places_are_one};
 pub use lf_improve_strategy::{ImproveOptions, ImproveSearch, TeamNets, WireNets};
 pub use lf_repair_team::RepairFault;
-pub use team::{ImproveWish, TeamImprovement, improve_team};
+pub use team::{ImproveGoal, TeamImprovement, improve_team};
