@@ -105,8 +105,8 @@ GROUPS = {
         "lf_task_* lf_app lefence",
         "tasks over files. `_faults` prints faults, `_designs` opens designs, `_files` has `check`, `describe` and what"
         " the other tasks share, `_reports` makes the reports of wire lengths, repairs and improvements, and `_run`"
-        " runs a work on a floor. `_wires`, `_serve`, `_repair` and `_improve` are the other tasks. `lf_app` selects the"
-        " task, and `lefence` is the program",
+        " runs a work on a floor. `_wires`, `_serve`, `_repair` and `_improve` are the other tasks. `lf_app` selects"
+        " the task, and `lefence` is the program",
     ),
     "tests": Group("lf_tests_* lefence_rows lefence_bench", "tests in code, worked rows, and the bench of loading"),
 }
