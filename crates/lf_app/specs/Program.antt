@@ -1,0 +1,133 @@
+-- A run of the program: what it reads, prints and writes for the words of its command line, and the status with which it
+-- ends.
+use Rattle.std.specs.Prelude.{◌≡◌, ◌⊎◌, ℕ, Bool, true, List, [], Option, Some, None, Result, Ok, Err, Vec, String, map, string_bytes, take}
+use Rattle.std.specs.Io.KnownBytes.{Appends}
+use Rattle.lf_cli.specs.Command.{Job, Text, job_of}
+use Rattle.lf_cli.specs.Help.{help_requested}
+use Rattle.lf_cli.specs.declared.help.Help.{Help}
+use Rattle.lf_cli.specs.declared.parse.UsageFault.{UsageFault}
+use Rattle.lf_cli.specs.declared.parse.UsageFault.TheVariants as usage
+use Rattle.lf_task_usage.specs.Usage.{help_text, usage_text}
+use Rattle.lf_task_faults.specs.declared.faults.Fault.{Fault}
+use Rattle.lf_task_faults.specs.declared.faults.Fault.TheVariants.{Output, SetupOutOfMemory}
+use Rattle.lf_task_faults.specs.Faults.{fault_lines_text, status_of}
+use Rattle.lf_task_designs.specs.Designs.{ReadsFile}
+use Rattle.lf_task_serve.specs.Surroundings.{BlamesEnvironment, Io, streams_of}
+use Rattle.lf_app.specs.Exits.{IsJobFault, IsJobOutcome, NamesNoFile, NamesNoState, ReadsNoInput, reads_of}
+use Rattle.lf_app.specs.Offers.{IsOfferOf}
+
+-- A run: what contracts see of its devices before and after it, the bytes of standard error before and after it and
+-- whether writing them has failed, and the exit status.
+pub record Run : Type 0 where
+  pub before : Io
+  pub after : Io
+  pub messages_before : Option (List ℕ)
+  pub messages_after : Option (List ℕ)
+  pub messages_failed : Bool
+  pub status : ℕ
+
+abbrev pub run_of : Io → Io → Option (List ℕ) → Option (List ℕ) → Bool → ℕ → Run
+run_of before after messages_before messages_after messages_failed status = record {
+  before = before;
+  after = after;
+  messages_before = messages_before;
+  messages_after = messages_after;
+  messages_failed = messages_failed;
+  status = status;
+}
+
+-- ---- what is said on standard error
+
+-- Nothing is written to standard error.
+abbrev pub IsSilent : Run → Type 0
+IsSilent run = run.messages_after ≡ run.messages_before
+
+-- Exactly this text is written to standard error, unless that fails.
+abbrev pub Reports : Text → Run → Type 0
+Reports text run = Appends run.messages_before run.messages_after text ⊎ (run.messages_failed ≡ true)
+
+-- The run ends with this fault: its lines are reported, and the status is its status.
+abbrev pub EndsByFault : Fault → Run → Type 0
+EndsByFault fault run = Reports (fault_lines_text fault) run × (run.status ≡ status_of fault)
+
+-- ---- runs that do a job
+
+-- Nothing is written to standard output.
+abbrev pub IsUnwritten : Run → Type 0
+IsUnwritten run =
+    (run.after.contents ≡ run.before.contents) × (run.after.write_failed ≡ run.before.write_failed)
+
+-- A job leaves alone what it does not ask for: standard input, and the files to write.
+pub record SparesDevices (job : Job) (run : Run) : Type 0 where
+  pub unread : ReadsNoInput job → (run.after.left ≡ run.before.left) × (run.after.reads ≡ run.before.reads)
+  pub unasked : NamesNoFile job → (run.after.puts ≡ run.before.puts) × (run.after.put_failed ≡ run.before.put_failed)
+
+-- The job is done, and nothing is reported.
+pub record IsJobDone (gives : ReadsFile) (job : Job) (run : Run) : Type 0 where
+  pub outcome : IsJobOutcome gives job (streams_of run.before run.after) run.status
+  pub offered : IsOfferOf job run.before.offers run.after.offers
+  pub silent : IsSilent run
+
+-- The job fails with one fault. No state is saved if none is requested. Only the requested service is offered.
+pub record IsJobFailed (gives : ReadsFile) (job : Job) (run : Run) : Type 0 where
+  pub fault : Fault
+  pub why : IsJobFault gives job fault (streams_of run.before run.after)
+  pub blames : BlamesEnvironment (reads_of job) (IsUnwritten run) run.before run.after fault
+  pub unput : NamesNoState job → run.after.puts ≡ run.before.puts
+  pub offered : (run.after.offers ≡ run.before.offers) ⊎ IsOfferOf job run.before.offers run.after.offers
+  pub ends : EndsByFault fault run
+
+-- The run of words that name a job.
+abbrev pub IsJobRun : ReadsFile → Job → Run → Type 0
+IsJobRun gives job run = SparesDevices job run × (IsJobDone gives job run ⊎ IsJobFailed gives job run)
+
+-- ---- other runs
+
+-- No device is touched but standard error.
+abbrev pub IsUntouched : Run → Type 0
+IsUntouched run = run.after ≡ run.before
+
+-- No device is touched but standard output and standard error.
+abbrev pub TouchesOutputAlone : Run → Type 0
+TouchesOutputAlone run =
+    run.after ≡ record run.before { contents = run.after.contents; write_failed = run.after.write_failed }
+
+-- The text is written to standard output, with status 0.
+abbrev pub IsShown : Text → Run → Type 0
+IsShown text run = Appends run.before.contents run.after.contents text × IsSilent run × (run.status ≡ 0)
+
+-- Standard output fails, after a prefix of the text is written, perhaps nothing.
+abbrev pub IsNotShown : Text → Run → Type 0
+IsNotShown text run = ((n : ℕ) × Appends run.before.contents run.after.contents (take n text))
+    × (run.after.write_failed ≡ true) × EndsByFault Output run
+
+-- The run of words that request help or the version.
+abbrev pub IsHelpRun : Help → Run → Type 0
+IsHelpRun help run = TouchesOutputAlone run × (IsShown (help_text help) run ⊎ IsNotShown (help_text help) run)
+
+-- The run of words that mean nothing: a message, with some lines of the argument parser, and status 2.
+abbrev pub IsUsageRun : List Text → Run → Type 0
+IsUsageRun words run = IsUntouched run × ((said : List Text) × Reports (usage_text said words) run) × (run.status ≡ 2)
+
+-- The run of words for which memory does not suffice: it ends with that fault, which has status 1.
+abbrev pub IsMemoryRun : Run → Type 0
+IsMemoryRun run = IsUntouched run × EndsByFault SetupOutOfMemory run
+
+-- ---- all runs
+
+-- The run of words that name this job if any, otherwise request this help if any.
+abbrev pub IsRunOf : ReadsFile → Option Job → Option Help → List Text → Run → Type 0
+IsRunOf gives (Some job) help words run = IsJobRun gives job run
+IsRunOf gives None (Some help) words run = IsHelpRun help run
+IsRunOf gives None None words run = IsUsageRun words run
+
+-- The words of the command line, or why they are not read: one of them is no text, or memory does not suffice.
+abbrev pub words_read : Result (Vec String) UsageFault → Result (List Text) UsageFault
+words_read (Ok words) = Ok (map string_bytes words.items)
+words_read (Err fault) = Err fault
+
+-- The run of the program on these words.
+abbrev pub IsProgramRun : ReadsFile → Result (List Text) UsageFault → Run → Type 0
+IsProgramRun gives (Ok words) run = IsRunOf gives (job_of words) (help_requested words) words run ⊎ IsMemoryRun run
+IsProgramRun gives (Err usage.Usage) run = IsUsageRun [] run
+IsProgramRun gives (Err usage.OutOfMemory) run = IsMemoryRun run

@@ -1,0 +1,53 @@
+-- What is printed if the words of the command line name no task.
+use Rattle.std.specs.Prelude.{ℕ, List, [], ◌∷◌, ◌++◌, codes, flat_map, if◌then◌else◌, is_some}
+use Rattle.lf_cli.specs.Command.{Text, subcommand_named}
+use Rattle.lf_cli.specs.declared.help.Help.{Help}
+use Rattle.lf_cli.specs.declared.help.Help.TheVariants.{Program, Version, Of}
+use Rattle.lf_cli.specs.declared.subcommand.Subcommand.{Subcommand}
+use Rattle.lf_cli.specs.declared.subcommand.Subcommand.TheVariants.{Demo, Check, Describe, Wirelength, Replay, Serve, Repair, Improve}
+use Rattle.lf_task_usage.specs.declared.help_texts.TheConstants.{PROGRAM, VERSION, DEMO, CHECK, DESCRIBE, WIRELENGTH, REPLAY, SERVE, REPAIR, IMPROVE}
+use Rattle.lf_task_usage.specs.declared.usage.TheConstants.{HINT, SUBCOMMAND_HINT}
+
+-- ---- help
+
+-- The help of a subcommand.
+abbrev pub subcommand_text : Subcommand → Text
+subcommand_text Demo = DEMO.now
+subcommand_text Check = CHECK.now
+subcommand_text Describe = DESCRIBE.now
+subcommand_text Wirelength = WIRELENGTH.now
+subcommand_text Replay = REPLAY.now
+subcommand_text Serve = SERVE.now
+subcommand_text Repair = REPAIR.now
+subcommand_text Improve = IMPROVE.now
+
+-- The text of the requested help, or of the version.
+abbrev pub help_text : Help → Text
+help_text Program = PROGRAM.now
+help_text Version = VERSION.now
+help_text (Of chosen) = subcommand_text chosen
+
+-- ---- wrong words
+
+-- A line of a message.
+abbrev pub message_line : Text → Text
+message_line text = codes "lefence: " ++ text ++ 10 ∷ []
+
+-- The word after the program's name. It is empty if there is none.
+abbrev pub second_word : List Text → Text
+second_word (name ∷ word ∷ words) = word
+second_word _ = []
+
+-- How to get the help of the subcommand of this word, or of any if it is of none.
+abbrev pub named_hint : Text → Text
+named_hint word = if is_some (subcommand_named word)
+    then codes "  lefence " ++ word ++ codes " --help   what it does, with an example" ++ 10 ∷ []
+    else SUBCOMMAND_HINT.now
+
+-- How to get help, also for the subcommand that the words name.
+abbrev pub hint_text : List Text → Text
+hint_text words = HINT.now ++ named_hint (second_word words)
+
+-- The message about words that name no task, with these lines of the argument parser.
+abbrev pub usage_text : List Text → List Text → Text
+usage_text said words = message_line (codes "usage") ++ flat_map message_line said ++ hint_text words
