@@ -2,7 +2,7 @@
 -- ends.
 use Rattle.std.specs.Prelude.{◌≡◌, ◌⊎◌, ℕ, Bool, true, List, [], Option, Some, None, Result, Ok, Err, Vec, String, map, string_bytes, take}
 use Rattle.std.specs.Io.KnownBytes.{Appends}
-use Rattle.lf_cli.specs.Command.{Job, Text, job_of}
+use Rattle.lf_cli.specs.Command.{Job, job_of}
 use Rattle.lf_cli.specs.Help.{help_requested}
 use Rattle.lf_cli.specs.declared.help.Help.{Help}
 use Rattle.lf_cli.specs.declared.parse.UsageFault.{UsageFault}
@@ -43,7 +43,7 @@ abbrev pub IsSilent : Run → Type 0
 IsSilent run = run.messages_after ≡ run.messages_before
 
 -- Exactly this text is written to standard error, unless that fails.
-abbrev pub Reports : Text → Run → Type 0
+abbrev pub Reports : List ℕ → Run → Type 0
 Reports text run = Appends run.messages_before run.messages_after text ⊎ (run.messages_failed ≡ true)
 
 -- The run ends with this fault: its lines are reported, and the status is its status.
@@ -93,11 +93,11 @@ TouchesOutputAlone run =
     run.after ≡ record run.before { contents = run.after.contents; write_failed = run.after.write_failed }
 
 -- The text is written to standard output, with status 0.
-abbrev pub IsShown : Text → Run → Type 0
+abbrev pub IsShown : List ℕ → Run → Type 0
 IsShown text run = Appends run.before.contents run.after.contents text × IsSilent run × (run.status ≡ 0)
 
 -- Standard output fails, after a prefix of the text is written, perhaps nothing.
-abbrev pub IsNotShown : Text → Run → Type 0
+abbrev pub IsNotShown : List ℕ → Run → Type 0
 IsNotShown text run = ((n : ℕ) × Appends run.before.contents run.after.contents (take n text))
     × (run.after.write_failed ≡ true) × EndsByFault Output run
 
@@ -106,8 +106,8 @@ abbrev pub IsHelpRun : Help → Run → Type 0
 IsHelpRun help run = TouchesOutputAlone run × (IsShown (help_text help) run ⊎ IsNotShown (help_text help) run)
 
 -- The run of words that mean nothing: a message, with some lines of the argument parser, and status 2.
-abbrev pub IsUsageRun : List Text → Run → Type 0
-IsUsageRun words run = IsUntouched run × ((said : List Text) × Reports (usage_text said words) run) × (run.status ≡ 2)
+abbrev pub IsUsageRun : List (List ℕ) → Run → Type 0
+IsUsageRun words run = IsUntouched run × ((said : List (List ℕ)) × Reports (usage_text said words) run) × (run.status ≡ 2)
 
 -- The run of words for which memory does not suffice: it ends with that fault, which has status 1.
 abbrev pub IsMemoryRun : Run → Type 0
@@ -116,18 +116,18 @@ IsMemoryRun run = IsUntouched run × EndsByFault SetupOutOfMemory run
 -- ---- all runs
 
 -- The run of words that name this job if any, otherwise request this help if any.
-abbrev pub IsRunOf : ReadsFile → Option Job → Option Help → List Text → Run → Type 0
+abbrev pub IsRunOf : ReadsFile → Option Job → Option Help → List (List ℕ) → Run → Type 0
 IsRunOf gives (Some job) help words run = IsJobRun gives job run
 IsRunOf gives None (Some help) words run = IsHelpRun help run
 IsRunOf gives None None words run = IsUsageRun words run
 
 -- The words of the command line, or why they are not read: one of them is no text, or memory does not suffice.
-abbrev pub words_read : Result (Vec String) UsageFault → Result (List Text) UsageFault
+abbrev pub words_read : Result (Vec String) UsageFault → Result (List (List ℕ)) UsageFault
 words_read (Ok words) = Ok (map string_bytes words.items)
 words_read (Err fault) = Err fault
 
 -- The run of the program on these words.
-abbrev pub IsProgramRun : ReadsFile → Result (List Text) UsageFault → Run → Type 0
+abbrev pub IsProgramRun : ReadsFile → Result (List (List ℕ)) UsageFault → Run → Type 0
 IsProgramRun gives (Ok words) run = IsRunOf gives (job_of words) (help_requested words) words run ⊎ IsMemoryRun run
 IsProgramRun gives (Err usage.Usage) run = IsUsageRun [] run
 IsProgramRun gives (Err usage.OutOfMemory) run = IsMemoryRun run

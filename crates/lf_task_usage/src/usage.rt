@@ -1,9 +1,8 @@
 //! The message about words that name no task.
 
-ghost use Rattle.std.specs.Prelude.{◌≡◌, List, OnErr, OnOk, flat_map, map, true};
+ghost use Rattle.std.specs.Prelude.{◌≡◌, ℕ, List, OnErr, OnOk, map, true};
 ghost use Rattle.std.specs.Io.KnownBytes.{Appends};
-ghost use Rattle.lf_cli.specs.Command.{Text};
-ghost use Rattle.lf_task_usage.specs.Usage.{hint_text, message_line, named_hint, second_word, usage_text};
+ghost use Rattle.lf_task_usage.specs.Usage.{AppendsLines, hint_text, message_line, named_hint, second_word, usage_text};
 
 use lf_cli::{help_of, usage_message};
 use lf_io::{DeviceFault, Sink, send};
@@ -41,9 +40,9 @@ fn begins_usage(line: &str) -> bool {
 }
 
 /// Writes the lines of the parser's message that precede its own usage.
+#[tactic(auto, using(crate::proofs::Said::also_said, crate::proofs::Said::nothing_said))]
 fn put_complaints<W: Sink>(sink: &mut W, message: &str) -> Result<(), DeviceFault>
-    ensures ok { OnOk result ((said : List Text)
-        × Appends (W.contents sink.old) (W.contents sink.new) (flat_map message_line said)) }
+    ensures ok { OnOk result (AppendsLines (W.contents sink.old) (W.contents sink.new)) }
     ensures failed { OnErr result (W.has_failed sink.new ≡ true) }
     ensures held { W.holds sink.new ≡ W.holds sink.old }
 {
@@ -61,8 +60,7 @@ fn put_complaints<W: Sink>(sink: &mut W, message: &str) -> Result<(), DeviceFaul
 
 /// Writes which word is wrong or missing, and what is allowed. Writes nothing if an allocation fails.
 fn put_reasons<W: Sink>(alloc: Global, sink: &mut W, words: &[&str]) -> Result<(), DeviceFault>
-    ensures ok { OnOk result ((said : List Text)
-        × Appends (W.contents sink.old) (W.contents sink.new) (flat_map message_line said)) }
+    ensures ok { OnOk result (AppendsLines (W.contents sink.old) (W.contents sink.new)) }
     ensures failed { OnErr result (W.has_failed sink.new ≡ true) }
     ensures held { W.holds sink.new ≡ W.holds sink.old }
 {
@@ -111,8 +109,9 @@ fn put_hint<W: Sink>(sink: &mut W, words: &[&str]) -> Result<(), DeviceFault>
 
 /// Writes the message about words that name no task: which word is wrong, as the parser says, and how
 /// to get help. `Err` if a write fails.
+#[tactic(auto, using(crate::proofs::Said::whole_message))]
 pub fn write_usage<W: Sink>(alloc: Global, sink: &mut W, words: &[&str]) -> Result<(), DeviceFault>
-    ensures ok { OnOk result ((said : List Text) × Appends (W.contents sink.old) (W.contents sink.new)
+    ensures ok { OnOk result ((said : List (List ℕ)) × Appends (W.contents sink.old) (W.contents sink.new)
         (usage_text said (map (λ word. word.now) words.now))) }
     ensures failed { OnErr result (W.has_failed sink.new ≡ true) }
     ensures held { W.holds sink.new ≡ W.holds sink.old }
