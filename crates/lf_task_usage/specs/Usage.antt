@@ -7,7 +7,7 @@ use Rattle.lf_cli.specs.declared.help.Help.TheVariants.{Program, Version, Of}
 use Rattle.lf_cli.specs.declared.subcommand.Subcommand.{Subcommand}
 use Rattle.lf_cli.specs.declared.subcommand.Subcommand.TheVariants.{Demo, Check, Describe, Wirelength, Replay, Serve, Repair, Improve}
 use Rattle.lf_task_usage.specs.declared.help_texts.TheConstants.{PROGRAM, VERSION, DEMO, CHECK, DESCRIBE, WIRELENGTH, REPLAY, SERVE, REPAIR, IMPROVE}
-use Rattle.lf_task_usage.specs.declared.usage.TheConstants.{HINT, SUBCOMMAND_HINT}
+use Rattle.lf_task_usage.specs.declared.usage.TheConstants.{HINT, ANY_HINT}
 
 -- ---- help
 
@@ -43,11 +43,13 @@ abbrev pub second_word : List (List ℕ) → List ℕ
 second_word (name ∷ word ∷ words) = word
 second_word _ = []
 
+-- How to get the help of the subcommand of this word.
+abbrev pub subcommand_hint : List ℕ → List ℕ
+subcommand_hint word = codes "  lefence " ++ word ++ (codes " --help   what it does, with an example" ++ 10 ∷ [])
+
 -- How to get the help of the subcommand of this word, or of any if it is of none.
 abbrev pub named_hint : List ℕ → List ℕ
-named_hint word = if is_some (subcommand_named word)
-    then codes "  lefence " ++ word ++ (codes " --help   what it does, with an example" ++ 10 ∷ [])
-    else SUBCOMMAND_HINT.now
+named_hint word = if is_some (subcommand_named word) then subcommand_hint word else ANY_HINT.now
 
 -- How to get help, also for the subcommand that the words name.
 abbrev pub hint_text : List (List ℕ) → List ℕ

@@ -2,7 +2,7 @@
 
 ghost use Rattle.std.specs.Prelude.{◌≡◌, ℕ, List, OnErr, OnOk, map, true};
 ghost use Rattle.std.specs.Io.KnownBytes.{Appends};
-ghost use Rattle.lf_task_usage.specs.Usage.{AppendsLines, hint_text, message_line, named_hint, second_word, usage_text};
+ghost use Rattle.lf_task_usage.specs.Usage.{AppendsLines, hint_text, message_line, named_hint, second_word, subcommand_hint, usage_text};
 
 use lf_cli::{help_of, usage_message};
 use lf_io::{DeviceFault, Sink, send};
@@ -13,7 +13,7 @@ pub(crate) const HINT: &str = "  lefence --help                all subcommands a
 ";
 
 /// How to get the help of a subcommand, if the words name none.
-pub(crate) const SUBCOMMAND_HINT: &str =
+pub(crate) const ANY_HINT: &str =
     "  lefence demo --help           what a subcommand does, with an example (so for each of them)
 ";
 
@@ -28,10 +28,19 @@ fn put_line<W: Sink>(sink: &mut W, text: &str) -> Result<(), DeviceFault>
     send(sink, b"\n")
 }
 
-/// Returns what a line of the parser's message says.
-fn complaint_of(line: &str) -> &str {
+/// Writes what a line of the parser's message says, if it says anything.
+#[tactic(auto, using(crate::proofs::Said::nothing_said, crate::proofs::Said::said_on_ok))]
+fn put_complaint<W: Sink>(sink: &mut W, line: &str) -> Result<(), DeviceFault>
+    ensures ok { OnOk result (AppendsLines (W.contents sink.old) (W.contents sink.new)) }
+    ensures failed { OnErr result (W.has_failed sink.new ≡ true) }
+    ensures held { W.holds sink.new ≡ W.holds sink.old }
+{
     let line = line.trim();
-    line.strip_prefix("error: ").unwrap_or(line)
+    let complaint = line.strip_prefix("error: ").unwrap_or(line);
+    if complaint.is_empty() {
+        return Ok(());
+    }
+    put_line(sink, complaint)
 }
 
 /// Returns whether the parser's own usage begins with this line.
@@ -40,7 +49,7 @@ fn begins_usage(line: &str) -> bool {
 }
 
 /// Writes the lines of the parser's message that precede its own usage.
-#[tactic(auto, using(crate::proofs::Said::also_said, crate::proofs::Said::nothing_said))]
+#[tactic(auto, using(crate::proofs::Said::nothing_said, crate::proofs::Said::also_said))]
 fn put_complaints<W: Sink>(sink: &mut W, message: &str) -> Result<(), DeviceFault>
     ensures ok { OnOk result (AppendsLines (W.contents sink.old) (W.contents sink.new)) }
     ensures failed { OnErr result (W.has_failed sink.new ≡ true) }
@@ -50,10 +59,7 @@ fn put_complaints<W: Sink>(sink: &mut W, message: &str) -> Result<(), DeviceFaul
         if begins_usage(line) {
             return Ok(());
         }
-        let complaint = complaint_of(line);
-        if !complaint.is_empty() {
-            put_line(sink, complaint)?;
-        }
+        put_complaint(sink, line)?;
     }
     Ok(())
 }
@@ -80,19 +86,27 @@ fn second_word<'a>(words: &'a [&'a str]) -> &'a str
     ""
 }
 
+/// Writes how to get the help of the subcommand of this word.
+fn put_subcommand_hint<W: Sink>(sink: &mut W, word: &str) -> Result<(), DeviceFault>
+    ensures ok { OnOk result (Appends (W.contents sink.old) (W.contents sink.new) (subcommand_hint word.now)) }
+    ensures failed { OnErr result (W.has_failed sink.new ≡ true) }
+    ensures held { W.holds sink.new ≡ W.holds sink.old }
+{
+    send(sink, b"  lefence ")?;
+    send(sink, word.as_bytes())?;
+    send(sink, b" --help   what it does, with an example\n")
+}
+
 /// Writes how to get the help of the subcommand of this word, or of any if it is of none.
+#[tactic(auto, using(crate::proofs::Said::hint_named, crate::proofs::Said::hint_unnamed))]
 fn put_named_hint<W: Sink>(sink: &mut W, word: &str) -> Result<(), DeviceFault>
     ensures ok { OnOk result (Appends (W.contents sink.old) (W.contents sink.new) (named_hint word.now)) }
     ensures failed { OnErr result (W.has_failed sink.new ≡ true) }
     ensures held { W.holds sink.new ≡ W.holds sink.old }
 {
     match help_of(&["lefence", word, "--help"]) {
-        Some(_) => {
-            send(sink, b"  lefence ")?;
-            send(sink, word.as_bytes())?;
-            send(sink, b" --help   what it does, with an example\n")
-        }
-        None => send(sink, SUBCOMMAND_HINT.as_bytes()),
+        Some(_) => put_subcommand_hint(sink, word),
+        None => send(sink, ANY_HINT.as_bytes()),
     }
 }
 
@@ -109,7 +123,6 @@ fn put_hint<W: Sink>(sink: &mut W, words: &[&str]) -> Result<(), DeviceFault>
 
 /// Writes the message about words that name no task: which word is wrong, as the parser says, and how
 /// to get help. `Err` if a write fails.
-#[tactic(auto, using(crate::proofs::Said::whole_message))]
 pub fn write_usage<W: Sink>(alloc: Global, sink: &mut W, words: &[&str]) -> Result<(), DeviceFault>
     ensures ok { OnOk result ((said : List (List ℕ)) × Appends (W.contents sink.old) (W.contents sink.new)
         (usage_text said (map (λ word. word.now) words.now))) }
