@@ -1,9 +1,9 @@
 //! The program `lefence`: it passes its words and its devices to `lf_app::run_program`, and ends with the status that
 //! this returns.
 //!
-//! What remains here is what depends on the terminal: how often progress is reported, and a note that lines are awaited.
-//! If the reader of a report, a description or a help text closes the pipe early, as `head` does, the status is 3 without
-//! a message.
+//! What remains here is what depends on the terminal: how often progress is reported, and a note that lines are
+//! awaited. If the reader of a report, a description or a help text closes the pipe early, as `head` does, the status
+//! is 3 without a message.
 //!
 //! Modules, in reading order:
 //!

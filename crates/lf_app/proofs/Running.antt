@@ -1,10 +1,7 @@
 -- Runs of the program.
-use Rattle.std.proofs.Common.{◌≡◌, ◌∙◌, ◌⊎◌, inl, inr, Bool, true, false, ℕ, List, Option, Result, Ok, Err, ap, refl, sym}
+use Rattle.std.proofs.Common.{◌≡◌, ◌⊎◌, inl, inr, Bool, true, false, ℕ, List, [], Option, Result, Ok, Err, refl}
 use Rattle.std.specs.Io.KnownBytes.{Appends}
-use Rattle.std.specs.Prelude.{IfErr, IfOk, OnErr, OnOk}
-use Rattle.lf_io.specs.Shelf.{Put}
-use Rattle.lf_server.specs.Connections.{Accepted}
-use Rattle.lf_server.specs.declared.acceptor.ServiceConfig.{ServiceConfig}
+use Rattle.std.specs.Prelude.{OnErr, OnOk}
 use Rattle.lf_cli.specs.Command.{Job}
 use Rattle.lf_task_faults.specs.declared.faults.Fault.{Fault}
 use Rattle.lf_task_faults.specs.declared.faults.TaskExit.{TaskExit}
@@ -12,15 +9,17 @@ use Rattle.lf_task_faults.specs.Faults.{EndsWith, fault_lines_text}
 use Rattle.lf_task_usage.specs.Usage.{usage_text}
 use Rattle.lf_task_designs.specs.Designs.{ReadsFile}
 use Rattle.lf_task_files.specs.Faults.{IsDone, IsFailure}
+use Rattle.lf_task_run.specs.Outputs.{WritesExportAlone, WritesNoFile}
 use Rattle.lf_task_serve.specs.Surroundings.{BlamesEnvironment, Io, streams_of}
-use Rattle.lf_app.specs.Exits.{EndsTask, IsJobFault, IsJobOutcome, NamesNoState, reads_of}
+use Rattle.lf_app.specs.Exits.{EndsTask, IsJobFault, IsJobOutcome}
 use Rattle.lf_app.specs.Offers.{IsOfferOf}
-use Rattle.lf_app.specs.Program.{EndsByFault, IsJobRun, Reports, SparesDevices, TouchesOutputAlone, run_of}
+use Rattle.lf_app.specs.Requests.{requests_of}
+use Rattle.lf_app.specs.Program.{EndsByFault, IsJobFailed, IsJobRun, run_of}
 
 -- A fault that was reported, or not, ends the run.
 pub by_fault : (fault : Fault) (old new : Io) (before after : Option (List ℕ)) (failed : Bool) (exit : TaskExit) → EndsWith fault before after failed exit
     → EndsByFault fault (run_of old new before after failed exit.status)
-by_fault fault old new before after failed exit ends = (reported exit.is_printed refl, ends.status)
+by_fault fault old new before after failed exit ends = record { reported = reported exit.is_printed refl; status_is = ends.status }
   where
     reported : (printed : Bool) → exit.is_printed ≡ printed → Appends before after (fault_lines_text fault) ⊎ (failed ≡ true)
     reported true is = inl (ends.reported is)
@@ -28,21 +27,22 @@ by_fault fault old new before after failed exit ends = (reported exit.is_printed
 
 -- A task that ends so is the run of its job.
 pub job_run : (gives : ReadsFile) (job : Job) (old new : Io) (before after : Option (List ℕ)) (failed : Bool) (kept : Type 0) (exit : TaskExit)
-    → SparesDevices job (run_of old new before after failed exit.status) → IsDone exit.status ⊎ IsFailure exit.status
+    → ((requests_of job).reads_input ≡ false → (new.left ≡ old.left) × (new.reads ≡ old.reads))
+    → (WritesNoFile (requests_of job).files → (new.puts ≡ old.puts) × (new.put_failed ≡ old.put_failed)) → IsDone exit.status ⊎ IsFailure exit.status
     → (IsDone exit.status → IsJobOutcome gives job (streams_of old new) exit.status)
     → (IsDone exit.status → after ≡ before)
     → (IsDone exit.status → IsOfferOf job old.offers new.offers)
-    → (IsFailure exit.status → EndsTask (λ fault. IsJobFault gives job fault (streams_of old new) × BlamesEnvironment (reads_of job) kept old new fault) before after failed exit)
+    → (IsFailure exit.status → EndsTask (λ fault. IsJobFault gives job fault (streams_of old new) × BlamesEnvironment (requests_of job).lines kept old new fault) before after failed exit)
     → (kept → (new.contents ≡ old.contents) × (new.write_failed ≡ old.write_failed))
-    → (NamesNoState job → IsFailure exit.status → new.puts ≡ old.puts)
+    → (WritesExportAlone (requests_of job).files → IsFailure exit.status → new.puts ≡ old.puts)
     → (new.offers ≡ old.offers) ⊎ IsOfferOf job old.offers new.offers
     → IsJobRun gives job (run_of old new before after failed exit.status)
-job_run gives job old new before after failed kept exit spares (inl done) outcome silent offered fault keeps unput unoffered =
-    (spares, inl (record { outcome = outcome done; offered = offered done; silent = silent done }))
-job_run gives job old new before after failed kept exit spares (inr fails) outcome silent offered fault keeps unput unoffered =
+job_run gives job old new before after failed kept exit unread unasked (inl done) outcome silent offered fault keeps unput unoffered =
+    record { ends = inl (record { outcome = outcome done; offered = offered done; silent = silent done }); unread = unread; unasked = unasked }
+job_run gives job old new before after failed kept exit unread unasked (inr fails) outcome silent offered fault keeps unput unoffered =
     let ends = fault fails in
     let blames = ends.1.1 in
-    (spares, inr (record {
+    let failure : IsJobFailed gives job (run_of old new before after failed exit.status) = record {
       fault = ends.0;
       why = ends.1.0;
       blames = record {
@@ -56,11 +56,12 @@ job_run gives job old new before after failed kept exit spares (inr fails) outco
       unput = λ none. unput none fails;
       offered = unoffered;
       ends = by_fault ends.0 old new before after failed exit ends.2;
-    }))
+    } in
+    record { ends = inr failure; unread = unread; unasked = unasked }
 
 -- A message of some lines was written, or writing failed.
-pub reports_words : {E : Type 0} (r : Result () E) (words : List (List ℕ)) (old new : Io) (before after : Option (List ℕ)) (failed : Bool)
+pub reported_words : {T E : Type 0} (r : Result T E) (words : List (List ℕ)) (before after : Option (List ℕ)) (failed : Bool)
     → OnOk r ((said : List (List ℕ)) × Appends before after (usage_text said words)) → OnErr r (failed ≡ true)
-    → (said : List (List ℕ)) × Reports (usage_text said words) (run_of old new before after failed 2)
-reports_words (Ok done) words old new before after failed ok err = (ok.0, inl ok.1)
-reports_words (Err fault) words old new before after failed ok err = ([], inr err)
+    → (said : List (List ℕ)) × (Appends before after (usage_text said words) ⊎ (failed ≡ true))
+reported_words (Ok done) words before after failed ok err = (ok.0, inl ok.1)
+reported_words (Err fault) words before after failed ok err = ([], inr err)

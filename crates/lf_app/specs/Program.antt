@@ -1,6 +1,7 @@
--- A run of the program: what it reads, prints and writes for the words of its command line, and the status with which it
--- ends.
-use Rattle.std.specs.Prelude.{◌≡◌, ◌⊎◌, ℕ, Bool, true, List, [], Option, Some, None, Result, Ok, Err, Vec, String, map, string_bytes, take}
+-- A run of the program: what it reads, prints and writes for the words of its command line, and the status with which
+-- it ends.
+use Rattle.std.specs.Prelude.{◌≡◌, ◌⊎◌, ℕ, Bool, true, false, List, [], Option, Some, None, Result, Ok, Err}
+use Rattle.std.specs.Prelude.{String, Vec, map, string_bytes, take}
 use Rattle.std.specs.Io.KnownBytes.{Appends}
 use Rattle.lf_cli.specs.Command.{Job, job_of}
 use Rattle.lf_cli.specs.Help.{help_requested}
@@ -13,8 +14,10 @@ use Rattle.lf_task_faults.specs.declared.faults.Fault.TheVariants.{Output, Setup
 use Rattle.lf_task_faults.specs.Faults.{fault_lines_text, status_of}
 use Rattle.lf_task_designs.specs.Designs.{ReadsFile}
 use Rattle.lf_task_serve.specs.Surroundings.{BlamesEnvironment, Io, streams_of}
-use Rattle.lf_app.specs.Exits.{IsJobFault, IsJobOutcome, NamesNoFile, NamesNoState, ReadsNoInput, reads_of}
+use Rattle.lf_task_run.specs.Outputs.{WritesExportAlone, WritesNoFile}
+use Rattle.lf_app.specs.Exits.{IsJobFault, IsJobOutcome}
 use Rattle.lf_app.specs.Offers.{IsOfferOf}
+use Rattle.lf_app.specs.Requests.{requests_of}
 
 -- A run: what contracts see of its devices before and after it, the bytes of standard error before and after it and
 -- whether writing them has failed, and the exit status.
@@ -47,8 +50,9 @@ abbrev pub Reports : List ℕ → Run → Type 0
 Reports text run = Appends run.messages_before run.messages_after text ⊎ (run.messages_failed ≡ true)
 
 -- The run ends with this fault: its lines are reported, and the status is its status.
-abbrev pub EndsByFault : Fault → Run → Type 0
-EndsByFault fault run = Reports (fault_lines_text fault) run × (run.status ≡ status_of fault)
+pub record EndsByFault (fault : Fault) (run : Run) : Type 0 where
+  pub reported : Reports (fault_lines_text fault) run
+  pub status_is : run.status ≡ status_of fault
 
 -- ---- runs that do a job
 
@@ -57,61 +61,64 @@ abbrev pub IsUnwritten : Run → Type 0
 IsUnwritten run =
     (run.after.contents ≡ run.before.contents) × (run.after.write_failed ≡ run.before.write_failed)
 
--- A job leaves alone what it does not ask for: standard input, and the files to write.
-pub record SparesDevices (job : Job) (run : Run) : Type 0 where
-  pub unread : ReadsNoInput job → (run.after.left ≡ run.before.left) × (run.after.reads ≡ run.before.reads)
-  pub unasked : NamesNoFile job → (run.after.puts ≡ run.before.puts) × (run.after.put_failed ≡ run.before.put_failed)
-
 -- The job is done, and nothing is reported.
 pub record IsJobDone (gives : ReadsFile) (job : Job) (run : Run) : Type 0 where
   pub outcome : IsJobOutcome gives job (streams_of run.before run.after) run.status
   pub offered : IsOfferOf job run.before.offers run.after.offers
   pub silent : IsSilent run
 
--- The job fails with one fault. No state is saved if none is requested. Only the requested service is offered.
+-- The job fails with one fault. No file is written if none but the exported text is requested. Only the requested
+-- service is offered.
 pub record IsJobFailed (gives : ReadsFile) (job : Job) (run : Run) : Type 0 where
   pub fault : Fault
   pub why : IsJobFault gives job fault (streams_of run.before run.after)
-  pub blames : BlamesEnvironment (reads_of job) (IsUnwritten run) run.before run.after fault
-  pub unput : NamesNoState job → run.after.puts ≡ run.before.puts
+  pub blames : BlamesEnvironment (requests_of job).lines (IsUnwritten run) run.before run.after fault
+  pub unput : WritesExportAlone (requests_of job).files → run.after.puts ≡ run.before.puts
   pub offered : (run.after.offers ≡ run.before.offers) ⊎ IsOfferOf job run.before.offers run.after.offers
   pub ends : EndsByFault fault run
 
--- The run of words that name a job.
-abbrev pub IsJobRun : ReadsFile → Job → Run → Type 0
-IsJobRun gives job run = SparesDevices job run × (IsJobDone gives job run ⊎ IsJobFailed gives job run)
+-- The run of words that name a job: the job is done, or fails. Standard input and files are left alone if they are not
+-- requested.
+pub record IsJobRun (gives : ReadsFile) (job : Job) (run : Run) : Type 0 where
+  pub ends : IsJobDone gives job run ⊎ IsJobFailed gives job run
+  pub unread : (requests_of job).reads_input ≡ false
+      → (run.after.left ≡ run.before.left) × (run.after.reads ≡ run.before.reads)
+  pub unasked : WritesNoFile (requests_of job).files
+      → (run.after.puts ≡ run.before.puts) × (run.after.put_failed ≡ run.before.put_failed)
 
 -- ---- other runs
 
--- No device is touched but standard error.
-abbrev pub IsUntouched : Run → Type 0
-IsUntouched run = run.after ≡ run.before
-
--- No device is touched but standard output and standard error.
-abbrev pub TouchesOutputAlone : Run → Type 0
-TouchesOutputAlone run =
-    run.after ≡ record run.before { contents = run.after.contents; write_failed = run.after.write_failed }
-
 -- The text is written to standard output, with status 0.
-abbrev pub IsShown : List ℕ → Run → Type 0
-IsShown text run = Appends run.before.contents run.after.contents text × IsSilent run × (run.status ≡ 0)
+pub record IsShown (text : List ℕ) (run : Run) : Type 0 where
+  pub written : Appends run.before.contents run.after.contents text
+  pub silent : IsSilent run
+  pub status_is : run.status ≡ 0
 
 -- Standard output fails, after a prefix of the text is written, perhaps nothing.
-abbrev pub IsNotShown : List ℕ → Run → Type 0
-IsNotShown text run = ((n : ℕ) × Appends run.before.contents run.after.contents (take n text))
-    × (run.after.write_failed ≡ true) × EndsByFault Output run
+pub record IsNotShown (text : List ℕ) (run : Run) : Type 0 where
+  pub size : ℕ
+  pub written : Appends run.before.contents run.after.contents (take size text)
+  pub failed : run.after.write_failed ≡ true
+  pub ends : EndsByFault Output run
 
--- The run of words that request help or the version.
-abbrev pub IsHelpRun : Help → Run → Type 0
-IsHelpRun help run = TouchesOutputAlone run × (IsShown (help_text help) run ⊎ IsNotShown (help_text help) run)
+-- The run of words that request help or the version. No device is touched but standard output and standard error.
+pub record IsHelpRun (help : Help) (run : Run) : Type 0 where
+  pub shown : IsShown (help_text help) run ⊎ IsNotShown (help_text help) run
+  pub spares : run.after ≡ record run.before { contents = run.after.contents; write_failed = run.after.write_failed }
 
--- The run of words that mean nothing: a message, with some lines of the argument parser, and status 2.
-abbrev pub IsUsageRun : List (List ℕ) → Run → Type 0
-IsUsageRun words run = IsUntouched run × ((said : List (List ℕ)) × Reports (usage_text said words) run) × (run.status ≡ 2)
+-- The run of words that mean nothing: a message, with some lines of the argument parser, and status 2. No device is
+-- touched but standard error.
+pub record IsUsageRun (words : List (List ℕ)) (run : Run) : Type 0 where
+  pub said : List (List ℕ)
+  pub reported : Reports (usage_text said words) run
+  pub status_is : run.status ≡ 2
+  pub spares : run.after ≡ run.before
 
--- The run of words for which memory does not suffice: it ends with that fault, which has status 1.
-abbrev pub IsMemoryRun : Run → Type 0
-IsMemoryRun run = IsUntouched run × EndsByFault SetupOutOfMemory run
+-- The run of words for which memory does not suffice: it ends with that fault, which has status 1. No device is touched
+-- but standard error.
+pub record IsMemoryRun (run : Run) : Type 0 where
+  pub ends : EndsByFault SetupOutOfMemory run
+  pub spares : run.after ≡ run.before
 
 -- ---- all runs
 
@@ -131,3 +138,13 @@ abbrev pub IsProgramRun : ReadsFile → Result (List (List ℕ)) UsageFault → 
 IsProgramRun gives (Ok words) run = IsRunOf gives (job_of words) (help_requested words) words run ⊎ IsMemoryRun run
 IsProgramRun gives (Err usage.Usage) run = IsUsageRun [] run
 IsProgramRun gives (Err usage.OutOfMemory) run = IsMemoryRun run
+
+-- The job that the words name, if they are read and name one.
+abbrev pub job_read : Result (List (List ℕ)) UsageFault → Option Job
+job_read (Ok words) = job_of words
+job_read (Err fault) = None
+
+-- There is no job, or it shows no progress.
+abbrev pub ShowsNoProgress : Option Job → Type 0
+ShowsNoProgress None = Unit {0}
+ShowsNoProgress (Some job) = (requests_of job).shows_progress ≡ false

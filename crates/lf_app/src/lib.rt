@@ -3,9 +3,9 @@
 //! `run_program` does it over any input files (`InputFiles`), output files (`OutputFiles`), services (`PortListener`)
 //! and other devices. Its contract (`IsProgramRun`) states what was read, printed and written, and the status.
 //! `perform_over` does a `Task` over such devices, and `perform` does it over the files and the network of a runtime.
-//! `Task` and `UsageFault` come from `lf_cli`. `InputFiles` comes from `lf_task_designs`, which reads and loads designs.
-//! `Fault` and `TaskExit` come from `lf_task_faults`, which prints faults. `PortListener` and `serve_lines_within` come
-//! from `lf_task_serve`, and `Progress` from `lf_task_run`.
+//! `Task` and `UsageFault` come from `lf_cli`. `InputFiles` comes from `lf_task_designs`, which reads and loads
+//! designs. `Fault` and `TaskExit` come from `lf_task_faults`, which prints faults. `PortListener` and
+//! `serve_lines_within` come from `lf_task_serve`, and `Progress` from `lf_task_run`.
 //!
 //! If the words name no task, help or the version is printed with status 0, or a message with status 2. The status is 1
 //! if an allocation for the words fails, and 3 if the help cannot be written.

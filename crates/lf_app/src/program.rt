@@ -1,18 +1,17 @@
 //! The program: what it does for the words of its command line.
 
-ghost use Rattle.std.specs.Prelude.{◌≡◌, false, map, IfOk, IfSome, string_bytes};
+ghost use Rattle.std.specs.Prelude.{◌≡◌, false, map, IfOk, string_bytes, None, Ok};
 ghost use Rattle.lf_cli.specs.Command.{as_job, job_of};
-ghost use Rattle.lf_cli.specs.Help.{help_requested};
+ghost use Rattle.lf_cli.specs.declared.parse.UsageFault.TheVariants.{Usage};
 ghost use Rattle.lf_task_serve.specs.Surroundings.{IsReady};
-ghost use Rattle.lf_app.specs.Exits.{RepairsNothing};
-ghost use Rattle.lf_app.specs.Program.{IsHelpRun, IsJobRun, IsMemoryRun, IsProgramRun, IsUsageRun, run_of, words_read};
+ghost use Rattle.lf_app.specs.Program.{IsHelpRun, IsJobRun, IsMemoryRun, IsProgramRun, IsUsageRun, ShowsNoProgress, job_read, run_of, words_read};
+ghost use Rattle.lf_app.specs.Requests.{requests_of};
 
 use crate::tasks::perform_over;
 use lf_cli::{Help, Task, UsageFault, command_of, help_of};
-use lf_io::send;
 use lf_task_faults::{Fault, report_fault};
 use lf_task_serve::{Devices, Environment, Shows};
-use lf_task_usage::{help_text, write_usage};
+use lf_task_usage::{write_help, write_usage};
 use std::alloc::{AllocError, Global};
 
 /// Does the task, and returns the exit status.
@@ -23,7 +22,8 @@ fn run_task<D: Devices>(alloc: Global, environment: &mut Environment<D>, task: &
         IsJobRun (D.Texts.gives environment.old.texts) (as_job task.now)
         (run_of (io environment.old) (io environment.new) (D.Faults.contents environment.old.faults)
         (D.Faults.contents environment.new.faults) (D.Faults.has_failed environment.new.faults) result) }
-    ensures silent { RepairsNothing (as_job task.now) → environment.new.progress ≡ environment.old.progress }
+    ensures silent { (requests_of (as_job task.now)).shows_progress ≡ false
+        → environment.new.progress ≡ environment.old.progress }
     ensures texts { environment.new.texts ≡ environment.old.texts }
 {
     let exit = perform_over(alloc, environment, task);
@@ -39,7 +39,7 @@ fn show_help<D: Devices>(environment: &mut Environment<D>, help: Help) -> u8
     ensures silent { environment.new.progress ≡ environment.old.progress }
     ensures texts { environment.new.texts ≡ environment.old.texts }
 {
-    match send(&mut environment.writer, help_text(help).as_bytes()) {
+    match write_help(&mut environment.writer, help) {
         Ok(()) => 0,
         Err(_) => {
             let exit = report_fault(&mut environment.faults, &Fault::Output);
@@ -75,19 +75,27 @@ fn refuse_for_memory<D: Devices>(environment: &mut Environment<D>) -> u8
     exit.status
 }
 
-/// Does what words that name no task request, and returns the exit status.
-fn answer_words<D: Devices>(alloc: Global, environment: &mut Environment<D>, words: &[&str]) -> u8
+/// Does what words that name no task request, and returns the exit status. `fault` is why they name none.
+fn answer_words<D: Devices>(
+    alloc: Global,
+    environment: &mut Environment<D>,
+    words: &[&str],
+    fault: UsageFault,
+) -> u8
+    requires no_job { fault ≡ Usage → job_of (map (λ word. word.now) words.now) ≡ None }
     ensures run { let io = ⟦<Environment<D> as Shows>⟧.io in
-        IsRunOf (D.Texts.gives environment.old.texts) None (help_requested (map (λ word. word.now) words.now))
-        (map (λ word. word.now) words.now)
+        IsProgramRun (D.Texts.gives environment.old.texts) (Ok (map (λ word. word.now) words.now))
         (run_of (io environment.old) (io environment.new) (D.Faults.contents environment.old.faults)
         (D.Faults.contents environment.new.faults) (D.Faults.has_failed environment.new.faults) result) }
     ensures silent { environment.new.progress ≡ environment.old.progress }
     ensures texts { environment.new.texts ≡ environment.old.texts }
 {
-    match help_of(words) {
-        Some(help) => show_help(environment, help),
-        None => refuse_words(alloc, environment, words),
+    match fault {
+        UsageFault::Usage => match help_of(words) {
+            Some(help) => show_help(environment, help),
+            None => refuse_words(alloc, environment, words),
+        },
+        UsageFault::OutOfMemory => refuse_for_memory(environment),
     }
 }
 
@@ -99,14 +107,13 @@ fn run_words<D: Devices>(alloc: Global, environment: &mut Environment<D>, words:
         IsProgramRun (D.Texts.gives environment.old.texts) (Ok (map (λ word. word.now) words.now))
         (run_of (io environment.old) (io environment.new) (D.Faults.contents environment.old.faults)
         (D.Faults.contents environment.new.faults) (D.Faults.has_failed environment.new.faults) result) }
-    ensures silent { IfSome (job_of (map (λ word. word.now) words.now)) RepairsNothing
+    ensures silent { ShowsNoProgress (job_of (map (λ word. word.now) words.now))
         → environment.new.progress ≡ environment.old.progress }
     ensures texts { environment.new.texts ≡ environment.old.texts }
 {
     match command_of(alloc, words) {
         Ok(task) => run_task(alloc, environment, &task),
-        Err(UsageFault::Usage) => answer_words(alloc, environment, words),
-        Err(UsageFault::OutOfMemory) => refuse_for_memory(environment),
+        Err(fault) => answer_words(alloc, environment, words, fault),
     }
 }
 
@@ -128,8 +135,8 @@ fn borrowed(alloc: Global, words: &[String]) -> Result<Vec<&str>, AllocError>
 /// - 2 if they mean nothing, or are not read since one of them is no text
 /// - 1 if an allocation for the words fails
 ///
-/// Faults are reported on `faults`, also those of the words: then with the lines of the argument parser's message, and how
-/// to get help. Without a task nothing is read, and no file is written.
+/// Faults are reported on `faults`, also those of the words: then with the lines of the argument parser's message, and
+/// how to get help. Without a task nothing is read, and no file is written.
 pub fn run_program<D: Devices>(
     alloc: Global,
     environment: &mut Environment<D>,
@@ -142,6 +149,8 @@ pub fn run_program<D: Devices>(
         IsProgramRun (D.Texts.gives environment.old.texts) (words_read words.now)
         (run_of (io environment.old) (io environment.new) (D.Faults.contents environment.old.faults)
         (D.Faults.contents environment.new.faults) (D.Faults.has_failed environment.new.faults) result) }
+    ensures silent { ShowsNoProgress (job_read (words_read words.now))
+        → environment.new.progress ≡ environment.old.progress }
     ensures texts { environment.new.texts ≡ environment.old.texts }
 {
     match words {

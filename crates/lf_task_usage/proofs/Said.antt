@@ -20,8 +20,8 @@ line_said a b line put = (line ∷ [], Appends-same a b _ _ (sym (append-nil (me
 
 -- More lines are written.
 pub also_said : (a b c : Option (List ℕ)) → AppendsLines a b → AppendsLines b c → AppendsLines a c
-also_said a b c (first, put) (more, then) =
-    (first ++ more, Appends-same a c _ _ (sym (flat_map-append message_line first more)) (Appends-more a b c _ _ put then))
+also_said a b c (first, put) (more, next) =
+    (first ++ more, Appends-same a c _ _ (sym (flat_map-append message_line first more)) (Appends-more a b c _ _ put next))
 
 -- The line that is written on success, if any.
 pub said_on_ok : {T E : Type 0} (r : Result T E) (a b : Option (List ℕ)) (line : List ℕ) → OnOk r (Appends a b (message_line line)) → OnOk r (AppendsLines a b)
@@ -31,8 +31,8 @@ said_on_ok (Err fault) a b line put = tt
 -- Bytes that were appended come before those that are appended on success.
 pub before : {T E : Type 0} (r : Result T E) (a b c : Option (List ℕ)) (xs ys : List ℕ) → Appends a b xs → OnOk r (Appends b c ys)
     → OnOk r (Appends a c (xs ++ ys))
-before (Ok value) a b c xs ys first then = Appends-more a b c xs ys first then
-before (Err fault) a b c xs ys first then = tt
+before (Ok value) a b c xs ys first next = Appends-more a b c xs ys first next
+before (Err fault) a b c xs ys first next = tt
 
 -- The hint for the word of a subcommand, and for another word.
 pub hint_named : (found : Option Subcommand) (help : Help) (one any : List ℕ) → option_map (λ chosen. Of chosen) found ≡ Some help → (if is_some found then one else any) ≡ one

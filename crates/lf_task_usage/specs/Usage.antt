@@ -45,7 +45,7 @@ second_word _ = []
 
 -- How to get the help of the subcommand of this word.
 abbrev pub subcommand_hint : List ℕ → List ℕ
-subcommand_hint word = codes "  lefence " ++ word ++ (codes " --help   what it does, with an example" ++ 10 ∷ [])
+subcommand_hint word = codes "  lefence " ++ word ++ codes " --help   what it does, with an example" ++ 10 ∷ []
 
 -- How to get the help of the subcommand of this word, or of any if it is of none.
 abbrev pub named_hint : List ℕ → List ℕ

@@ -1,9 +1,11 @@
 //! The texts of `--help` and `--version`.
 
-ghost use Rattle.std.specs.Prelude.{◌≡◌};
+ghost use Rattle.std.specs.Prelude.{◌≡◌, ℕ, OnErr, OnOk, take, true};
+ghost use Rattle.std.specs.Io.KnownBytes.{Appends};
 ghost use Rattle.lf_task_usage.specs.Usage.{help_text, subcommand_text};
 
 use lf_cli::{Help, Subcommand};
+use lf_io::{DeviceFault, Sink, send};
 
 /// All subcommands and their options, and how to get more help.
 pub(crate) const PROGRAM: &str =
@@ -170,7 +172,7 @@ fn subcommand_text(chosen: Subcommand) -> &'static str
 }
 
 /// Returns the text of the requested help.
-pub fn help_text(help: Help) -> &'static str
+fn help_text(help: Help) -> &'static str
     ensures { result.now ≡ help_text help }
 {
     match help {
@@ -178,4 +180,16 @@ pub fn help_text(help: Help) -> &'static str
         Help::Version => VERSION,
         Help::Of(chosen) => subcommand_text(chosen),
     }
+}
+
+/// Writes the requested help, or the version. `Err` if a write fails; then a prefix of the text is written, perhaps
+/// nothing.
+pub fn write_help<W: Sink>(sink: &mut W, help: Help) -> Result<(), DeviceFault>
+    ensures ok { OnOk result (Appends (W.contents sink.old) (W.contents sink.new) (help_text help)) }
+    ensures prefix { OnErr result ((n : ℕ) × Appends (W.contents sink.old) (W.contents sink.new)
+        (take n (help_text help))) }
+    ensures failed { OnErr result (W.has_failed sink.new ≡ true) }
+    ensures held { W.holds sink.new ≡ W.holds sink.old }
+{
+    send(sink, help_text(help).as_bytes())
 }

@@ -1,8 +1,8 @@
 //! Prints help, the version, and what is wrong with words that name no task.
 //!
-//! `help_text` is the text of the requested help or of the version. `write_usage` writes a message about wrong words:
+//! `write_help` writes the text of the requested help or the version. `write_usage` writes a message about wrong words:
 //! first what the argument parser says of them, and then how to get help. Contracts know the lines of the parser's
-//! message only as some lines. Everything else that is printed here has a definition (`usage_text`).
+//! message only as some lines. Everything else that is written here has a definition (`help_text`, `usage_text`).
 //!
 //! Used by `lf_app`.
 //!
@@ -14,15 +14,13 @@
 //! From `crates/lf_app/src/program.rt`:
 //!
 //! ```
-//! match send(&mut environment.writer, help_text(help).as_bytes()) {
-//!     Ok(()) => exit_with(0),
-//!     Err(_) => report_fault(&mut environment.faults, &Fault::Output),
-//! }
+//! match write_help(&mut environment.writer, help) {
+//!     Ok(()) => 0,
 //! ```
 #![tactic(auto)]
 
 mod help_texts;
 mod usage;
 
-pub use help_texts::help_text;
+pub use help_texts::write_help;
 pub use usage::write_usage;

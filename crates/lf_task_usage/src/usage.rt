@@ -49,7 +49,7 @@ fn begins_usage(line: &str) -> bool {
 }
 
 /// Writes the lines of the parser's message that precede its own usage.
-#[tactic(auto, using(crate::proofs::Said::nothing_said, crate::proofs::Said::also_said))]
+#[tactic(auto, using(crate::proofs::Said::nothing_said))]
 fn put_complaints<W: Sink>(sink: &mut W, message: &str) -> Result<(), DeviceFault>
     ensures ok { OnOk result (AppendsLines (W.contents sink.old) (W.contents sink.new)) }
     ensures failed { OnErr result (W.has_failed sink.new ≡ true) }
@@ -94,7 +94,8 @@ fn put_subcommand_hint<W: Sink>(sink: &mut W, word: &str) -> Result<(), DeviceFa
 {
     send(sink, b"  lefence ")?;
     send(sink, word.as_bytes())?;
-    send(sink, b" --help   what it does, with an example\n")
+    send(sink, b" --help   what it does, with an example")?;
+    send(sink, b"\n")
 }
 
 /// Writes how to get the help of the subcommand of this word, or of any if it is of none.
