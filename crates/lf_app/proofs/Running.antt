@@ -1,7 +1,10 @@
 -- Runs of the program.
-use Rattle.std.proofs.Common.{◌≡◌, ◌⊎◌, inl, inr, Bool, true, false, ℕ, List, [], Option, Result, Ok, Err, refl}
+use Rattle.std.proofs.Common.{◌≡◌, ◌∙◌, ◌⊎◌, ◌+◌, ◌<◌, inl, inr, Bool, true, false, ℕ, List, [], ◌∷◌, ◌++◌, get_or, length, map, take, Option, Result, Ok, Err, ap, ap₂, refl, sym}
+use Rattle.std.proofs.lemmas.List.{take_more}
+use Rattle.std.specs.Borrow.{Bor}
+use Rattle.std.specs.Global.{Global}
 use Rattle.std.specs.Io.KnownBytes.{Appends}
-use Rattle.std.specs.Prelude.{OnErr, OnOk}
+use Rattle.std.specs.Prelude.{OnErr, OnOk, String, string_bytes}
 use Rattle.lf_cli.specs.Command.{Job}
 use Rattle.lf_task_faults.specs.declared.faults.Fault.{Fault}
 use Rattle.lf_task_faults.specs.declared.faults.TaskExit.{TaskExit}
@@ -65,3 +68,16 @@ pub reported_words : {T E : Type 0} (r : Result T E) (words : List (List ℕ)) (
     → (said : List (List ℕ)) × (Appends before after (usage_text said words) ⊎ (failed ≡ true))
 reported_words (Ok done) words before after failed ok err = (ok.0, inl ok.1)
 reported_words (Err fault) words before after failed ok err = ([], inr err)
+
+mapped_last : {X Y : Type 0} (f : X → Y) (xs : List X) (x : X) → map f (xs ++ x ∷ []) ≡ map f xs ++ f x ∷ []
+mapped_last f [] x = refl
+mapped_last f (y ∷ xs) x = ap (λ ys. f y ∷ ys) (mapped_last f xs x)
+
+-- One word more is borrowed.
+pub borrowed_more : (texts : List (Bor (List ℕ))) (text : Bor (List ℕ)) (words : List (String Global)) (i : ℕ) (d : String Global) → i < length words
+    → map (λ t. t.now) texts ≡ map string_bytes (take i words) → text.now ≡ string_bytes (get_or words i d)
+    → map (λ t. t.now) (texts ++ text ∷ []) ≡ map string_bytes (take (i + 1) words)
+borrowed_more texts text words i d below first last =
+    mapped_last (λ t. t.now) texts text
+    ∙ (ap₂ (λ xs x. xs ++ x ∷ []) first last
+    ∙ sym (ap (map string_bytes) (take_more words i d below) ∙ mapped_last string_bytes (take i words) (get_or words i d)))

@@ -2,6 +2,7 @@
 -- it ends.
 use Rattle.std.specs.Prelude.{◌≡◌, ◌⊎◌, ℕ, Bool, true, false, List, [], Option, Some, None, Result, Ok, Err}
 use Rattle.std.specs.Prelude.{String, Vec, map, string_bytes, take}
+use Rattle.std.specs.Global.{Global}
 use Rattle.std.specs.Io.KnownBytes.{Appends}
 use Rattle.lf_cli.specs.Command.{Job, job_of}
 use Rattle.lf_cli.specs.Help.{help_requested}
@@ -129,7 +130,7 @@ IsRunOf gives None (Some help) words run = IsHelpRun help run
 IsRunOf gives None None words run = IsUsageRun words run
 
 -- The words of the command line, or why they are not read: one of them is no text, or memory does not suffice.
-abbrev pub words_read : Result (Vec String) UsageFault → Result (List (List ℕ)) UsageFault
+abbrev pub words_read : Result (Vec (String Global) Global) UsageFault → Result (List (List ℕ)) UsageFault
 words_read (Ok words) = Ok (map string_bytes words.items)
 words_read (Err fault) = Err fault
 

@@ -118,6 +118,7 @@ fn run_words<D: Devices>(alloc: Global, environment: &mut Environment<D>, words:
 }
 
 /// Borrows the words.
+#[tactic(auto, using(crate::proofs::Running::borrowed_more))]
 fn borrowed(alloc: Global, words: &[String]) -> Result<Vec<&str>, AllocError>
     ensures { IfOk result (λ texts. map (λ text. text.now) texts.items ≡ map string_bytes words.now) }
 {
