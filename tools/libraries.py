@@ -104,10 +104,10 @@ GROUPS = {
     "tasks": Group(
         "lf_task_* lf_app lefence",
         "tasks over files. `_usage` prints help and messages about wrong words, `_faults` prints faults, `_designs`"
-        " opens designs, `_files` has `check`, `describe` and what the other tasks share, `_reports` makes the reports of"
-        " wire lengths, repairs and improvements, and `_run` runs a work on a floor. `_wires`, `_serve`, `_repair` and"
-        " `_improve` are the other tasks. `lf_app` does what the words of a command line request, and `lefence` is the"
-        " program",
+        " opens designs, `_files` has `check`, `describe` and what the other tasks share, `_reports` makes the reports"
+        " of wire lengths, repairs and improvements, and `_run` runs a work on a floor. `_wires`, `_serve`, `_repair`"
+        " and `_improve` are the other tasks. `lf_app` does what the words of a command line request, and `lefence` is"
+        " the program",
     ),
     "tests": Group("lf_tests_* lefence_rows lefence_bench", "tests in code, worked rows, and the bench of loading"),
 }
