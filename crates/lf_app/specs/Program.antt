@@ -102,10 +102,14 @@ pub record IsNotShown (text : List ℕ) (run : Run) : Type 0 where
   pub failed : run.after.write_failed ≡ true
   pub ends : EndsByFault Output run
 
+-- These devices, with the standard output of others.
+abbrev pub with_output_of : Io → Io → Io
+with_output_of others io = record io { contents = others.contents; write_failed = others.write_failed }
+
 -- The run of words that request help or the version. No device is touched but standard output and standard error.
 pub record IsHelpRun (help : Help) (run : Run) : Type 0 where
   pub shown : IsShown (help_text help) run ⊎ IsNotShown (help_text help) run
-  pub spares : run.after ≡ record run.before { contents = run.after.contents; write_failed = run.after.write_failed }
+  pub spares : run.after ≡ with_output_of run.after run.before
 
 -- The run of words that mean nothing: a message, with some lines of the argument parser, and status 2. No device is
 -- touched but standard error.
