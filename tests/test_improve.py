@@ -421,7 +421,8 @@ class Improve(InFolder):
     def test_a_tall_cell_takes_no_place_of_another_height(self) -> None:
         # Each is joined to the place of the other, and both take three sites. But u covers two rows, and w one.
         nets = [("u", 900, 2000), ("w", 300, 1000)]
-        text = two_rows(6, {"u": (0, 0), "w": (3, 0)}, nets).replace("- u INV", "- u DBL").replace("- w INV", "- w NAND")
+        text = two_rows(6, {"u": (0, 0), "w": (3, 0)}, nets)
+        text = text.replace("- u INV", "- u DBL").replace("- w INV", "- w NAND")
         report = self.improve(text)
         self.assertEqual(report[-1]["moved"], 0)
 

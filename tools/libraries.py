@@ -89,8 +89,8 @@ GROUPS = {
     ),
     "wires": Group(
         "lf_wire_*",
-        "nets and their lengths. `_nets` reads pins and nets and finds the cells of pins, `_length` measures, `_density`"
-        " counts pins in bins, and `_targets` says where cells without a place are near their nets",
+        "nets and their lengths. `_nets` reads pins and nets and finds the cells of pins, `_length` measures,"
+        " `_density` counts pins in bins, and `_targets` says where cells without a place are near their nets",
     ),
     "improvements": Group(
         "lf_improve_*",
