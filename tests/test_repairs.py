@@ -7,6 +7,7 @@ repair finds.
 from __future__ import annotations
 
 import json
+import os
 import re
 import subprocess
 import unittest
@@ -145,6 +146,20 @@ class Repairs(InFolder):
         begun = progress("A", 1, 0) + progress("B", 2, teams.count("A"))
         begun += progress("-", 3, teams.count("A") + teams.count("B"))
         self.assertEqual(slowly, (0, run(words)[1], begun))
+
+    def test_on_a_terminal_it_says_how_far_it_is_after_two_seconds(self) -> None:
+        self.text.write_text(design({}))
+        hastened = {**preloading("hasten.c", self.folder), "HASTEN": "2500"}
+        words = [str(PROGRAM), "repair", str(self.text), str(LEF)]
+        control, terminal = os.openpty()
+        with open(control, "rb", buffering=0) as screen:
+            ran = subprocess.run(words, stdout=subprocess.PIPE, stderr=terminal, env=hastened, timeout=PATIENCE)
+            os.close(terminal)
+            said = screen.read(1_000).decode().splitlines()
+        self.assertEqual((ran.returncode, [line.split(":")[1] for line in said]), (0, [
+            f' repairing "{team}", team {number} of 3' for number, team in enumerate(("A", "B", "-"), 1)
+        ]))
+        self.assertEqual(run(words[1:], start=Start(environment=hastened))[2], "")
 
     def test_it_says_the_whole_name_of_a_team(self) -> None:
         name = "team_of_a_long_name"
