@@ -111,11 +111,12 @@ class Promises(InFolder):
         self.assertLessEqual(line["largest"], 18_000)
 
     def test_a_cell_outside_the_rows_of_its_team_is_near_if_it_is_at_their_edge(self) -> None:
-        # x is 50 rows below the row. l, in the way, stays: x has no shorter way to anywhere.
-        self.old.write_text(design(24, {"l": "w2 + PLACED ( 0 0 ) N", "x": "w2 + PLACED ( 0 -100000 ) N"}))
+        # The four cells are 50 rows below the row. So no step lets the wide one move, which is in their way.
+        below = {f"x{cell}": "w1 + PLACED ( 1600 -100000 ) N" for cell in range(4)}
+        self.old.write_text(design(24, {"l": "w6 + PLACED ( 1200 0 ) N", **below}))
         lines = self.folder / "lines.txt"
         line = self.repair("--effort", "0", "--lines", str(lines))
-        self.assertEqual((line["kept"], line["moved"], line["largest"]), (1, 1, 100_400))
+        self.assertEqual((line["kept"], line["moved"], line["largest"]), (1, 4, 101_000))
         self.assertNotIn(" l ", lines.read_text())
 
     def test_cells_without_a_place_are_placed_the_widest_first(self) -> None:
