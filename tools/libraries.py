@@ -89,8 +89,8 @@ GROUPS = {
     ),
     "wires": Group(
         "lf_wire_*",
-        "nets and their lengths. `_nets` reads pins and nets and finds the cells of pins, `_length` measures, `_density`"
-        " counts pins in bins, and `_targets` says where cells without a place are near their nets",
+        "nets and their lengths. `_nets` reads pins and nets and finds the cells of pins, `_length` measures,"
+        " `_density` counts pins in bins, and `_targets` says where cells without a place are near their nets",
     ),
     "improvements": Group(
         "lf_improve_*",
@@ -104,9 +104,9 @@ GROUPS = {
     "tasks": Group(
         "lf_task_* lf_app lefence",
         "tasks over files. `_faults` prints faults, `_designs` opens designs, `_files` has `check`, `describe` and what"
-        " the other tasks share, `_reports` makes the reports of wire lengths, repairs and improvements, and `_run` runs"
-        " a work on a floor. `_wires`, `_serve`, `_repair` and `_improve` are the other tasks. `lf_app` selects the"
-        " task, and `lefence` is the program",
+        " the other tasks share, `_reports` makes the reports of wire lengths, repairs and improvements, and `_run`"
+        " runs a work on a floor. `_wires`, `_serve`, `_repair` and `_improve` are the other tasks. `lf_app` selects"
+        " the task, and `lefence` is the program",
     ),
     "tests": Group("lf_tests_* lefence_rows lefence_bench", "tests in code, worked rows, and the bench of loading"),
 }
