@@ -61,6 +61,25 @@ END NETS
 END DESIGN
 """
 
+# Two rows that are far apart. The cells a, b and c overlap in the lower one, which has room for one of them.
+FAR_LEF = """VERSION 5.8 ;
+SITE core CLASS CORE ; SYMMETRY Y ; SIZE 0.2 BY 2.0 ; END core
+MACRO W3 CLASS CORE ; SIZE 0.6 BY 2.0 ; SYMMETRY X Y ; SITE core ; END W3
+END LIBRARY
+"""
+FAR_DEF = """VERSION 5.8 ;
+DESIGN w ;
+UNITS DISTANCE MICRONS 1000 ;
+ROW low core 0 0 N DO 5 BY 1 STEP 200 0 ;
+ROW high core 0 40000 N DO 6 BY 1 STEP 200 0 ;
+COMPONENTS 3 ;
+- a W3 + PLACED ( 0 0 ) N ;
+- b W3 + PLACED ( 200 0 ) N ;
+- c W3 + PLACED ( 0 0 ) N ;
+END COMPONENTS
+END DESIGN
+"""
+
 
 def of_gaps(site: dict[str, int]) -> tuple[str, str]:
     """The LEF and DEF texts of that row, with its cells at these sites."""
@@ -243,6 +262,22 @@ class Repairs(InFolder):
         status, report = self.repair(changes, "--keep")
         self.assertEqual((status, [line["left"] for line in report[:-1]]), (4, [["a2"], ["b1"], []]))
         self.assertEqual([line["gaps"] for line in report[:-1]], [[200], [400], []])
+
+    def test_gaps_are_near_the_working_places_of_a_state(self) -> None:
+        # In the state, the cells a and b are in the upper row, or unplaced after a commit there. With the padding only
+        # one of them fits there. Next to it two sites are free, and next to c, near the anchor of the team, one.
+        lef, state = self.folder / "far.lef", self.folder / "far.state"
+        lef.write_text(FAR_LEF)
+        self.text.write_text(FAR_DEF)
+        texts = [str(self.text), str(lef)]
+        places = "open -\nplace - 0 a 0 40000 N\nplace - 0 b 600 40000 N\n"
+        for more, gaps in ("", [400]), ("commit - 0\nunplace - 0 a\nunplace - 0 b\n", [200]):
+            with self.subTest(more):
+                done = run(["replay", *texts, "--save", str(state)], f"{places}{more}pad - 0 1\n")
+                self.assertEqual((done[0], done[2]), (0, ""))
+                _, written, _ = run(["repair", *texts, "--state", str(state)])
+                report = [json.loads(line) for line in written.splitlines()]
+                self.assertEqual((len(report[0]["left"]), report[0]["gaps"]), (1, gaps))
 
     def test_cells_without_a_place_get_one(self) -> None:
         status, report = self.repair({}, "--export", str(self.new))
