@@ -1,17 +1,12 @@
 -- The beginning of a journal, and what a design calls for.
-use Rattle.std.specs.Prelude.{ℕ, Bool, List, [], ◌∷◌, ◌++◌, Option, Some, None, take, if◌then◌else◌}
-use Rattle.std.specs.List.{flat_map}
+use Rattle.std.specs.Prelude.{ℕ, List, [], ◌∷◌, Option, Some, None, take, if◌then◌else◌}
 use Rattle.std.specs.Str.{bytes_eq}
-use Rattle.lf_journal_text.specs.Batches.{digits_of}
 use Rattle.lf_journal_text.specs.Records.{Entry, Log, title}
 use Rattle.lf_journal_run.specs.declared.fault.RefusalKind.{RefusalKind}
 use Rattle.lf_journal_run.specs.declared.fault.RefusalKind.TheVariants.{OtherTexts, OtherSessions, OtherState}
 
--- The line of a design: the number of session slots in 10 digits, and the names of its texts.
-abbrev pub design_line : ℕ → List (List ℕ) → List ℕ
-design_line sessions names = digits_of 10 sessions ++ flat_map (λ name. 32 ∷ name) names
-
--- The first record of a journal of the design of this line, which begins with the state of this name.
+-- The first record of a journal of the design of this line (it begins with the number of session slots in 10
+-- digits), which begins with the state of this name.
 abbrev pub due_beginning : List ℕ → List ℕ → Entry
 due_beginning design state = record { origin = title; line = design; reply = state }
 

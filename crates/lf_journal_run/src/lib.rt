@@ -1,9 +1,8 @@
 //! Runs a journal on a floor, and compares each reply with the recorded one.
 //!
 //! A journal is one segment (`lf_journal_text`). Its beginning is compared first: the line of the
-//! design, and the name of the state with which the segment begins. The name of a text is its length
-//! in 13 digits, a space, and its sum in 10 digits. The line of a design is the number of session
-//! slots in 10 digits, and then for the DEF text and each LEF text a space and its name.
+//! design, and the name of the state with which the segment begins. The line of a design begins with
+//! the number of session slots in 10 digits.
 //!
 //! Then the lines of all records are served as those of one connection (`lf_server`). The journal is
 //! accepted if and only if the replies are, byte for byte, the recorded ones, and no line is `bye`.
