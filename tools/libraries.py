@@ -78,7 +78,8 @@ GROUPS = {
     "state": Group("lf_state_*", "the text of a saved state"),
     "journal": Group(
         "lf_journal lf_journal_*",
-        "the journal of a hub. `_text` is its text, `lf_journal` puts batches on a disk, `_file` is a file as a disk",
+        "the journal of a hub. `_text` is its text, `lf_journal` puts batches on a disk, `_file` is a file as a disk,"
+        " and `_run` runs the records of a journal on a floor",
     ),
     "repairs": Group("lf_repair_*", "legal places for many cells"),
     "wires": Group(
@@ -280,10 +281,16 @@ RULES = (
         "Nets only advise a repair where its cells without a place may go.",
     ),
     Rule(
-        "journal",
+        "journal -lf_journal_run",
         Kind.INDEPENDENT,
         "all -lf_journal -lf_journal_text",
         "A journal keeps lines and replies, whatever they mean, so a crash is understood without a floor.",
+    ),
+    Rule(
+        "lf_journal_run",
+        Kind.INDEPENDENT,
+        "readers loading files tasks repairs wires",
+        "A journal is run on any floor, wherever it comes from.",
     ),
     Rule("io", Kind.INDEPENDENT, "all", "Devices and files are at the bottom, and any group may name `Output`."),
     Rule(

@@ -31,7 +31,7 @@ fn sessions_in(line: &[u8]) -> &[u8]
 
 /// Returns what is other in the first record than it should be.
 fn other_in(first: &Record<'_>, due: Beginning<'_>) -> Option<RefusalKind>
-    ensures { result ≡ other_in (entry_of first.now) (due_beginning due.design.now due.state.now) }
+    ensures { result ≡ other_in (entry_of first.now) (due_beginning due.entry.design.now due.entry.state.now) }
 {
     if first.line == due.design {
         if first.reply == due.state {
@@ -47,7 +47,7 @@ fn other_in(first: &Record<'_>, due: Beginning<'_>) -> Option<RefusalKind>
 
 /// Returns what is other in the first of the records.
 fn other_first(records: &[Record<'_>], due: Beginning<'_>) -> Option<RefusalKind>
-    ensures { result ≡ other_first (map entry_of records.now) (due_beginning due.design.now due.state.now) }
+    ensures { result ≡ other_first (map entry_of records.now) (due_beginning due.entry.design.now due.entry.state.now) }
 {
     match records.first() {
         Some(first) => other_in(first, due),
@@ -58,7 +58,7 @@ fn other_first(records: &[Record<'_>], due: Beginning<'_>) -> Option<RefusalKind
 /// Returns what is other in the beginning of a journal of these batches. `None` if it is the due one,
 /// or there is no batch.
 pub(crate) fn other_beginning(batches: &[Batch<'_>], due: Beginning<'_>) -> Option<RefusalKind>
-    ensures { result ≡ other_beginning (map log_of batches.now) (due_beginning due.design.now due.state.now) }
+    ensures { result ≡ other_beginning (map log_of batches.now) (due_beginning due.entry.design.now due.entry.state.now) }
 {
     match batches.first() {
         Some(first) => other_first(&first.records, due),

@@ -136,9 +136,9 @@ pub fn run_journal<K: Seeker + Drop>(
 ) -> Result<(), RunError>
     ensures stays { KeepsDesign floor.old floor.new }
     ensures ok { (l : Legalizer) → OnOk result
-        (RunsJournal l journal.now due.design.now due.state.now floor.old floor.new) }
+        (RunsJournal l journal.now due.entry.design.now due.entry.state.now floor.old floor.new) }
     ensures err { (l : Legalizer) → IfErr result
-        (IsNotRun l journal.now due.design.now due.state.now floor.old) }
+        (IsNotRun l journal.now due.entry.design.now due.entry.state.now floor.old) }
 {
     let batches = read_journal(alloc, journal)?;
     if let Some(kind) = other_beginning(&batches, due) {

@@ -1,6 +1,6 @@
 //! The lines and the replies of records as texts, and where a record is.
 
-ghost use Rattle.std.specs.Prelude.{◌≡◌, ◌+◌, ◌<◌, ◌≤◌, ◌++◌, length, map, OnOk};
+ghost use Rattle.std.specs.Prelude.{◌≡◌, ◌+◌, ◌<◌, ◌≤◌, ◌++◌, length, map, take, OnOk};
 ghost use Rattle.lf_journal_text.specs.Records.{entries_text, entry_text, line_text};
 ghost use Rattle.lf_journal_text.specs.Views.{entry_of, log_of};
 ghost use Rattle.lf_journal_run.specs.Texts.{entries_in, lines_text, log_size, logs_size, record_byte, replies_text, same_lines};
@@ -99,6 +99,24 @@ fn size_of_records(records: &[Record<'_>]) -> usize
     size
 }
 
+/// Returns the bytes of a batch in front of the record of this number.
+fn size_in_front(batch: &Batch<'_>, number: usize) -> usize
+    requires known { number ≤ length batch.now.records.items }
+    requires small { log_size (log_of batch.now) ≤ 18446744073709551615 }
+    ensures size { result ≡ 38 + length (entries_text (take number (log_of batch.now).entries)) }
+    ensures within { result ≤ log_size (log_of batch.now) }
+{
+    HEADER + size_of_records(&batch.records[..number])
+}
+
+/// Returns the bytes of a batch.
+fn size_of_batch(batch: &Batch<'_>) -> usize
+    requires { log_size (log_of batch.now) ≤ 18446744073709551615 }
+    ensures { result ≡ log_size (log_of batch.now) }
+{
+    HEADER + size_of_records(&batch.records)
+}
+
 /// Returns the byte where the record of this number begins, in a journal of these batches.
 pub(crate) fn record_byte(batches: &[Batch<'_>], number: usize) -> usize
     requires { logs_size (map log_of batches.now) ≤ 18446744073709551615 }
@@ -107,12 +125,11 @@ pub(crate) fn record_byte(batches: &[Batch<'_>], number: usize) -> usize
     let mut at = 0;
     let mut left = number;
     for batch in batches {
-        let records = batch.records.as_slice();
-        if left < records.len() {
-            return at + (HEADER + size_of_records(&records[..left]));
+        if left < batch.records.len() {
+            return at + size_in_front(batch, left);
         }
-        left -= records.len();
-        at += HEADER + size_of_records(records);
+        left -= batch.records.len();
+        at += size_of_batch(batch);
     }
     at
 }
