@@ -39,14 +39,19 @@ first_of at (Some log) rest logs is =
     ] in
     in_front_of log rest logs (sym (one_log at log rest begins) ∙ is)
 
+-- The records of a batch that was found.
+entries_or : Option Log → List Entry
+entries_or None = []
+entries_or (Some log) = log.entries
+
 -- The records of a batch are its bytes.
-said_by : (bytes : List ℕ) (t : ℕ) (found : Option (List Entry)) (log : Log) → (entries_of bytes ≡ found) → option_map (λ (es : List Entry). record { time = t; entries = es }) found ≡ Some log
+said_by : (bytes : List ℕ) (t : ℕ) (found : Option (List Entry)) (log : Log) → entries_of bytes ≡ found → option_map (λ (es : List Entry). record { time = t; entries = es }) found ≡ Some log
     → bytes ≡ entries_text log.entries
 unfolding entries_of
 said_by bytes t None log read is = absurd (cc is)
 said_by bytes t (Some es) log read is =
-    let same : Some (record { time = t; entries = es }) ≡ Some log = is in
-    entries_said (length bytes) bytes es read ∙ ap (λ (l : Log). entries_text l.entries) (cc same)
+    let same : es ≡ log.entries = ap entries_or is in
+    entries_said (length bytes) bytes es read ∙ ap entries_text same
 
 log_said : (batch : List ℕ) (log : Log) → log_in batch ≡ Some log → drop 37 batch ≡ entries_text log.entries
 unfolding log_in

@@ -64,6 +64,11 @@ pub record GetsOtherReply (l : Legalizer) (old : FloorState) (logs : List Log) (
   pub other : (text ≢ replies_text (entries_in logs)) ⊎ (ending ≢ Done)
   pub number_is : number ≡ same_lines text (replies_text (entries_in logs))
 
+-- The refusal of another reply, in a journal of these batches, to the record of this number behind the beginning.
+abbrev pub NamesRecord : List Log → ℕ → RunError → Type 0
+NamesRecord logs number Memory = Unit {0}
+NamesRecord logs number (Refused refusal) = (refusal.kind ≡ OtherReply) × (refusal.at ≡ record_byte (1 + number) 0 logs)
+
 -- The journal has the due beginning, and behind it the reply to a line is not the recorded one. The refusal names
 -- the first such record.
 pub record HasOtherReply (l : Legalizer) (journal design state : List ℕ) (old : FloorState)
@@ -73,8 +78,7 @@ pub record HasOtherReply (l : Legalizer) (journal design state : List ℕ) (old 
   pub begins : other_beginning logs (due_beginning design state) ≡ None
   pub number : ℕ
   pub gets : GetsOtherReply l old (drop 1 logs) number
-  pub kind : refusal.kind ≡ OtherReply
-  pub at : refusal.at ≡ record_byte (1 + number) 0 logs
+  pub names : NamesRecord logs number (Refused refusal)
 
 -- The journal is damaged.
 abbrev pub IsDamaged : List ℕ → Refusal → Type 0

@@ -5,9 +5,8 @@ ghost use Rattle.lf_rules.specs.Legalizer.{Legalizer};
 ghost use Rattle.lf_server.specs.Connections.{KeepsDesign};
 ghost use Rattle.lf_journal_text.specs.Records.{segment_of};
 ghost use Rattle.lf_journal_text.specs.Views.{log_of};
-ghost use Rattle.lf_journal_run.specs.Runs.{GetsOtherReply, IsNotRead, IsNotRun, RunsJournal, RunsLogs};
-ghost use Rattle.lf_journal_run.specs.Texts.{record_byte, same_lines};
-ghost use Rattle.lf_journal_run.specs.declared.fault.RefusalKind.TheVariants.{OtherReply};
+ghost use Rattle.lf_journal_run.specs.Runs.{GetsOtherReply, IsNotRead, IsNotRun, NamesRecord, RunsJournal, RunsLogs};
+ghost use Rattle.lf_journal_run.specs.Texts.{logs_size, same_lines};
 
 use crate::beginning::{Beginning, other_beginning};
 use crate::fault::{Refusal, RefusalKind, RunError};
@@ -121,6 +120,21 @@ fn behind_beginning<'b, 'a>(batches: &'b [Batch<'a>]) -> &'b [Batch<'a>]
     &batches[1..]
 }
 
+/// Returns the error of a journal of these batches in which the reply of a record is not the recorded
+/// one. Records behind the beginning are counted from 0.
+fn other_reply(batches: &[Batch<'_>], number: usize) -> RunError
+    requires { logs_size (map log_of batches.now) ≤ 18446744073709551615 }
+    ensures { NamesRecord (map log_of batches.now) number result }
+{
+    match number.checked_add(1) {
+        Some(behind) => RunError::Refused(Refusal {
+            at: record_byte(batches, behind),
+            kind: RefusalKind::OtherReply,
+        }),
+        None => RunError::Memory,
+    }
+}
+
 /// Runs a journal on a floor: the lines of its records are served as those of a connection, and the
 /// reply to each is compared with the recorded one. `due` is how the journal must begin; a journal
 /// without a batch begins with anything.
@@ -146,9 +160,6 @@ pub fn run_journal<K: Seeker + Drop>(
     }
     match run_batches(alloc, floor, behind_beginning(&batches))? {
         None => Ok(()),
-        Some(number) => Err(RunError::Refused(Refusal {
-            at: record_byte(&batches, number + 1),
-            kind: RefusalKind::OtherReply,
-        })),
+        Some(number) => Err(other_reply(&batches, number)),
     }
 }

@@ -21,8 +21,8 @@ loop-at-preserved c =
       | else-text-at-eq10 w ↦ omega (arith, i.few, w.count-is)
     ] in
     let counts : c.if-text-at-eq10.count + rest ≡ same_lines xs ys = elim c.if-text-at-eq10.branch [
-      | then-text-at-eq10 w ↦ omega (arith, i.counts, w.count-is, same_feed at xs ys c.loop-at-test.true c.if-at-other.true c.if-text-at.false w.if-text-at-eq10)
-      | else-text-at-eq10 w ↦ omega (arith, i.counts, w.count-is, same_byte at xs ys c.loop-at-test.true c.if-at-other.true c.if-text-at.false w.if-text-at-eq10)
+      | then-text-at-eq10 w ↦ omega (arith, i.counts, w.count-is, same_feed at xs ys c.loop-at-test.true c.if-at-other.true c.if-text-at.false w.if-text-at-eq10.true)
+      | else-text-at-eq10 w ↦ omega (arith, i.counts, w.count-is, same_byte at xs ys c.loop-at-test.true c.if-at-other.true c.if-text-at.false w.if-text-at-eq10.false)
     ] in
     record { within = omega (arith, c.loop-at-test.true); within_other = omega (arith, c.if-at-other.true); few = few; counts = counts }
 
