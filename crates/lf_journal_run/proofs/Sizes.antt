@@ -40,7 +40,7 @@ first_of at (Some log) rest logs is =
     in_front_of log rest logs (sym (one_log at log rest begins) ∙ is)
 
 -- The records of a batch that was found.
-entries_or : Option Log → List Entry
+abbrev entries_or : Option Log → List Entry
 entries_or None = []
 entries_or (Some log) = log.entries
 

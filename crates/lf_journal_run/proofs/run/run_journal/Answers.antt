@@ -17,8 +17,8 @@ other_reply-requires g c =
     let same = ap (λ (l : List Batch). logs_size (map log_of l)) c.deref-in-Some-2.ensures.value in
     omega (arith, logs_within c.args.journal.now logs c.in_ok-batches.ensures.ok, same, fits)
 
-pub returns-in-Some-2-clause-err : goal.returns-in-Some-2-clause-err
-returns-in-Some-2-clause-err g c = λ l.
+pub returns-clause-err : goal.returns-clause-err
+returns-clause-err g c = λ l.
     let items = c.in_ok-batches.batches.items in
     let logs = map log_of items in
     let due = due_beginning c.args.due.design.now c.args.due.state.now in

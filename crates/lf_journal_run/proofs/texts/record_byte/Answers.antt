@@ -39,7 +39,7 @@ returns-then-left-len c =
     let next : map log_of (drop i bs) ≡ log_of b ∷ rest =
     ap (map log_of) (drop_more bs i b c.loop-batch-test.true ∙ ap (λ (m : Batch). m ∷ drop (i + 1) bs) (sym c.batch-item.is)) in
     let few : left < length b.records.items = search rules in
-    let low : left < length (map entry_of b.records.items) = omega (arith, few, length-map entry_of b.records.items) in
+    let low : left < length (map entry_of b.records.items) = omega (arith, few, length-map b.records.items entry_of) in
     ap (λ (n : ℕ). at + n) c.size_in_front.ensures.size
     ∙ sym (ap (λ (l : List Log). record_byte left at l) next ∙ byte_here left at (log_of b) rest low)
     ∙ c.loop-batch.invariant.byte
@@ -77,8 +77,8 @@ loop-batch-preserved c =
     ap (map log_of) (drop_more bs i b c.loop-batch-test.true ∙ ap (λ (m : Batch). m ∷ drop (i + 1) bs) (sym c.batch-item.is)) in
     let many : length b.records.items ≤ left = search rules in
     let counted : c.len-left.result ≡ length b.records.items = search rules in
-    let past : length es ≤ left = omega (arith, many, length-map entry_of b.records.items) in
-    let len : c.len-left.result ≡ length es = omega (arith, counted, length-map entry_of b.records.items) in
+    let past : length es ≤ left = omega (arith, many, length-map b.records.items entry_of) in
+    let len : c.len-left.result ≡ length es = omega (arith, counted, length-map b.records.items entry_of) in
     record {
       byte =
           ap (λ (n : ℕ). record_byte (left - n) (at + c.size_of_batch-at.result) rest) len
