@@ -2,7 +2,8 @@
 use Rattle.std.specs.Prelude.{ℕ}
 use Rattle.lf_journal_text.specs.Numbers.{number_of as damage_number}
 use Rattle.lf_journal_run.specs.declared.fault.RefusalKind.{RefusalKind}
-use Rattle.lf_journal_run.specs.declared.fault.RefusalKind.TheVariants.{Damaged, OtherTexts, OtherSessions, OtherState, OtherReply}
+use Rattle.lf_journal_run.specs.declared.fault.RefusalKind.TheVariants.{Damaged, OtherTexts, OtherSessions}
+use Rattle.lf_journal_run.specs.declared.fault.RefusalKind.TheVariants.{OtherState, OtherReply}
 
 abbrev pub number_of : RefusalKind → ℕ
 number_of (Damaged kind) = damage_number kind
