@@ -452,11 +452,11 @@ pub fn improve_team<S: Seeker + Drop, K: Sink>(
         return Err(RepairFault::NoTeam);
     };
     length_is_bounded(goal.length);
-    let Ok(start) = team_input(alloc, floor, team, number, MovePolicy::MoveAll, &[]) else {
+    let Ok(input) = team_input(alloc, floor, team, number, MovePolicy::MoveAll, &[]) else {
         return Err(RepairFault::OutOfMemory);
     };
     let attempt = Attempt {
-        input: &start,
+        input: &input,
         wires,
         goal,
         search,
