@@ -12,7 +12,7 @@ import subprocess
 import unittest
 from pathlib import Path
 
-from program import DEF, DESIGN, LEF, PATIENCE, InFolder, Session, Start, run
+from program import DEF, DESIGN, LEF, PATIENCE, PROGRAM, InFolder, Session, Start, run
 
 # More lines than a pipe holds.
 COMMENTS = "# a line that no design needs\n" * 10_000
@@ -97,16 +97,23 @@ class Replies(unittest.TestCase):
 class Writes(unittest.TestCase):
     """Standard output that is a socket: what one write sends is one packet."""
 
+    def packets(self, words: list[str]) -> tuple[int, list[bytes]]:
+        """The status of the program with these words, and what each of its writes sends."""
+        reader, writer = socket.socketpair(socket.AF_UNIX, socket.SOCK_SEQPACKET)
+        with reader:
+            with writer:
+                process = subprocess.Popen([PROGRAM, *words], stdout=writer.fileno(), stderr=subprocess.DEVNULL)
+            reader.settimeout(PATIENCE)
+            sent = list(iter(lambda: reader.recv(100_000), b""))
+        return process.wait(PATIENCE), sent
+
     def test_a_report_takes_few_writes(self) -> None:
         for task in ("check", "describe", "wirelength", "repair", "improve"):
-            reader, writer = socket.socketpair(socket.AF_UNIX, socket.SOCK_SEQPACKET)
-            with self.subTest(task), reader:
-                with writer:
-                    status = run([task, *DESIGN], start=Start(stdout=writer.fileno()))[0]
+            with self.subTest(task):
+                status, sent = self.packets([task, *DESIGN])
                 self.assertIn(status, (0, 4))
-                packets = list(iter(lambda: reader.recv(100_000), b""))
-                self.assertTrue(packets)
-                self.assertLessEqual(len(packets), 4)
+                self.assertTrue(sent)
+                self.assertLessEqual(len(sent), 4)
 
 
 class Closed(unittest.TestCase):

@@ -111,12 +111,12 @@ class Promises(InFolder):
         self.assertLessEqual(line["largest"], 18_000)
 
     def test_a_cell_outside_the_rows_of_its_team_is_near_if_it_is_at_their_edge(self) -> None:
-        # The four cells are 50 rows below the row. So no step lets the wide one move, which is in their way.
-        below = {f"x{cell}": "w1 + PLACED ( 1600 -100000 ) N" for cell in range(4)}
+        # The four cells are ten rows below the row. No step lets the wide one move, which is in their way.
+        below = {f"x{cell}": "w1 + PLACED ( 1600 -20000 ) N" for cell in range(4)}
         self.old.write_text(design(24, {"l": "w6 + PLACED ( 1200 0 ) N", **below}))
         lines = self.folder / "lines.txt"
         line = self.repair("--effort", "0", "--lines", str(lines))
-        self.assertEqual((line["kept"], line["moved"], line["largest"]), (1, 4, 101_000))
+        self.assertEqual((line["kept"], line["moved"], line["largest"]), (1, 4, 21_000))
         self.assertNotIn(" l ", lines.read_text())
 
     def test_cells_without_a_place_are_placed_the_widest_first(self) -> None:

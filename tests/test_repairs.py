@@ -173,11 +173,12 @@ class Repairs(InFolder):
         control, terminal = os.openpty()
         with open(control, "rb", buffering=0) as screen:
             ran = subprocess.run(words, stdout=subprocess.PIPE, stderr=terminal, env=hastened, timeout=PATIENCE)
+            # (of a terminal that is closed and empty nothing can be read)
+            os.write(terminal, b"end\n")
             os.close(terminal)
             said = screen.read(1_000).decode().splitlines()
-        self.assertEqual((ran.returncode, [line.split(":")[1] for line in said]), (0, [
-            f' repairing "{team}", team {number} of 3' for number, team in enumerate(("A", "B", "-"), 1)
-        ]))
+        begun = [f'lefence: repairing "{team}", team {number} of 3' for number, team in enumerate(("A", "B", "-"), 1)]
+        self.assertEqual((ran.returncode, [line.rpartition(":")[0] or line for line in said]), (0, [*begun, "end"]))
         self.assertEqual(run(words[1:], start=Start(environment=hastened))[2], "")
 
     def test_it_says_the_whole_name_of_a_team(self) -> None:
