@@ -68,8 +68,9 @@ GROUPS = {
     "hub": Group(
         "lf_hub lf_hub_*",
         "many clients over one floor. `_clients` has the lines and replies of connections, `_turns` says whose line is"
-        " next, and `lf_hub` joins them and has the laws. It knows no socket and no disk. `_lines` reads the lines that"
-        " the hub answers itself. No program uses these crates yet: the hub that runs is `front/lefence/hub`",
+        " next, and `lf_hub` joins them and has the laws. `_lines` reads the lines that the hub answers itself, and"
+        " `_wire` is its sockets; the others know no socket and no disk. No program uses these crates yet: the hub that"
+        " runs is `front/lefence/hub`",
     ),
     "floor": Group(
         "lf_floor lf_floor_*",
@@ -123,7 +124,10 @@ PARTS = {
         "lf_io::Source lf_io::Sink lf_io::FromRead lf_io::ToWrite lf_io::DeviceFault lf_io::send",
         "the part of io without files and outputs",
     ),
-    "sockets": Group("std::net lf_server::Acceptor lf_task_serve::PortListener", "what listens and accepts clients"),
+    "sockets": Group(
+        "std::net lf_server::Acceptor lf_task_serve::PortListener lf_hub_wire::Sockets",
+        "what listens and accepts clients",
+    ),
 }
 
 
