@@ -103,10 +103,11 @@ GROUPS = {
     "laws": Group("lf_laws_*", "theorems over several crates, without code"),
     "tasks": Group(
         "lf_task_* lf_app lefence",
-        "tasks over files. `_faults` prints faults, `_designs` opens designs, `_files` has `check`, `describe` and what"
-        " the other tasks share, `_reports` makes the reports of wire lengths, repairs and improvements, and `_run`"
-        " runs a work on a floor. `_wires`, `_serve`, `_repair` and `_improve` are the other tasks. `lf_app` selects"
-        " the task, and `lefence` is the program",
+        "tasks over files. `_usage` prints help and messages about wrong words, `_faults` prints faults, `_designs`"
+        " opens designs, `_files` has `check`, `describe` and what the other tasks share, `_reports` makes the reports"
+        " of wire lengths, repairs and improvements, and `_run` runs a work on a floor. `_wires`, `_serve`, `_repair`"
+        " and `_improve` are the other tasks. `lf_app` does what the words of a command line request, and `lefence` is"
+        " the program",
     ),
     "tests": Group("lf_tests_* lefence_rows lefence_bench", "tests in code, worked rows, and the bench of loading"),
 }
@@ -296,8 +297,8 @@ RULES = (
         "A command is answered the same over a socket, a pipe or a file.",
     ),
     Rule(
-        "lf_task_faults lf_task_designs lf_task_files lf_task_wires lf_task_run lf_task_serve lf_task_repair"
-        " lf_task_improve lf_app lefence",
+        "lf_task_usage lf_task_faults lf_task_designs lf_task_files lf_task_wires lf_task_run lf_task_serve"
+        " lf_task_repair lf_task_improve lf_app lefence",
         Kind.ORDERED,
         "",
         "What tasks share is below them. `lf_task_repair` and `lf_task_improve` are works that `lf_task_run` runs.",

@@ -27,10 +27,10 @@ use Rattle.lf_task_files.specs.declared.measured.RepairLimits.{RepairLimits}
 -- ---- the cells that may move
 
 -- which of a team's cells may move
-abbrev pub how_of : LegalCells → MovePolicy
-how_of KeepLegal = Keep
-how_of MoveAsNeeded = AsNeeded
-how_of MoveAll = AllCells
+abbrev pub policy_of : LegalCells → MovePolicy
+policy_of KeepLegal = Keep
+policy_of MoveAsNeeded = AsNeeded
+policy_of MoveAll = AllCells
 
 -- the legal cells of all teams are at the same places
 abbrev pub KeepsAllLegalPlaces : FloorState → FloorState → Type 0

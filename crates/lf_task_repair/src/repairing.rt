@@ -14,7 +14,7 @@ ghost use Rattle.lf_task_faults.specs.declared.faults.Fault.TheVariants.{SetupOu
 ghost use Rattle.lf_task_run.specs.Commands.{IsKeptRun, kept_text};
 ghost use Rattle.lf_task_run.specs.Tasks.{IsWorkDone, request_of};
 ghost use Rattle.lf_task_run.specs.Teams.{AreKnown, IsStatusOf, OnlySelectedChange, selected_at, selected_names};
-ghost use Rattle.lf_task_repair.specs.Reports.{AddsTeamLines, AddsTotalLine, IsRepairOf, KeepsAllLegalPlaces, how_of, reach_of_rows};
+ghost use Rattle.lf_task_repair.specs.Reports.{AddsTeamLines, AddsTotalLine, IsRepairOf, KeepsAllLegalPlaces, policy_of, reach_of_rows};
 ghost use Rattle.lf_task_repair.specs.Repairs.{repair_means};
 
 use lf_cli::{LegalCells, RepairOptions};
@@ -38,8 +38,8 @@ use std::alloc::{AllocError, Global};
 const MOST_REACH: u64 = 9_223_372_036_854_775_807;
 
 /// Which of a team's cells may move.
-fn how_of(legal: LegalCells) -> MovePolicy
-    ensures { result ≡ how_of legal }
+fn policy_of(legal: LegalCells) -> MovePolicy
+    ensures { result ≡ policy_of legal }
 {
     match legal {
         LegalCells::KeepLegal => MovePolicy::KeepLegal,
@@ -174,7 +174,7 @@ fn repair_numbered<'f, P: Progress>(
     announce_team(lines.progress, "repairing", frame, name, number);
     let search = search_of(frame, plan.options, plan.targets, number);
     let legal = plan.options.legal;
-    repair_named(alloc, floor, name, how_of(legal), &search, lines, report)
+    repair_named(alloc, floor, name, policy_of(legal), &search, lines, report)
 }
 
 /// Repairs the selected teams in their order.
