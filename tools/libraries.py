@@ -79,7 +79,8 @@ GROUPS = {
     "state": Group("lf_state_text", "the text of a saved state, written and read"),
     "journal": Group(
         "lf_journal lf_journal_*",
-        "the journal of a hub. `_text` is its text, `lf_journal` puts batches on a disk, `_file` is a file as a disk."
+        "the journal of a hub. `_text` is its text, `lf_journal` puts batches on a disk, `_file` is a file as a disk,"
+        " and `_run` runs the records of a journal on a floor."
         " No program uses these crates yet: the journal of today's hub is `front/lefence/journal`",
     ),
     "repairs": Group(
@@ -278,10 +279,16 @@ RULES = (
         "Nets only advise a repair where its cells without a place may go.",
     ),
     Rule(
-        "journal",
+        "journal -lf_journal_run",
         Kind.INDEPENDENT,
         "all -lf_journal -lf_journal_text",
         "A journal keeps lines and replies, whatever they mean, so a crash is understood without a floor.",
+    ),
+    Rule(
+        "lf_journal_run",
+        Kind.INDEPENDENT,
+        "readers loading files tasks repairs wires",
+        "A journal is run on any floor, wherever it comes from.",
     ),
     Rule("io", Kind.INDEPENDENT, "all", "Devices and files are at the bottom, and any group may name `Output`."),
     Rule(
