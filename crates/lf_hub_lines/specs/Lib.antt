@@ -1,0 +1,2 @@
+pub mod HubLines
+pub mod OperatorLines
