@@ -85,12 +85,16 @@ fn hub_line_in<'a>(mut fields: Fields<'a>) -> Option<HubLine<&'a [u8]>>
     ensures { option_map hub_line_with_names result ≡ hub_line_in fields.entry }
 {
     let word = fields.next()?;
-    match word {
-        b"iam" => label(fields),
-        b"units" => units(fields),
-        b"wait" => wait(fields),
-        _ => None,
+    if word == b"iam".as_slice() {
+        return label(fields);
     }
+    if word == b"units".as_slice() {
+        return units(fields);
+    }
+    if word == b"wait".as_slice() {
+        return wait(fields);
+    }
+    None
 }
 
 /// Reads a line of a client that the hub answers itself, which is given without its line feed and

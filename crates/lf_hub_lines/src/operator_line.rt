@@ -30,12 +30,16 @@ pub enum OperatorLine<N> {
 fn alone<'a>(word: &[u8]) -> Option<OperatorLine<&'a [u8]>>
     ensures { option_map operator_line_with_names result ≡ alone_named word.now }
 {
-    match word {
-        b"stop" => Some(OperatorLine::Stop),
-        b"state" => Some(OperatorLine::State),
-        b"status" => Some(OperatorLine::Status),
-        _ => None,
+    if word == b"stop".as_slice() {
+        return Some(OperatorLine::Stop);
     }
+    if word == b"state".as_slice() {
+        return Some(OperatorLine::State);
+    }
+    if word == b"status".as_slice() {
+        return Some(OperatorLine::Status);
+    }
+    None
 }
 
 /// Reads the number of the connection to be ended.
@@ -50,13 +54,19 @@ fn drop_line<'a>(argument: &[u8]) -> Option<OperatorLine<&'a [u8]>>
 fn with_argument<'a>(word: &[u8], argument: &'a [u8]) -> Option<OperatorLine<&'a [u8]>>
     ensures { option_map operator_line_with_names result ≡ with_argument word.now argument.now }
 {
-    match word {
-        b"export" => Some(OperatorLine::Export { path: argument }),
-        b"drop" => drop_line(argument),
-        b"freeze" => Some(OperatorLine::Freeze { team: argument }),
-        b"thaw" => Some(OperatorLine::Thaw { team: argument }),
-        _ => None,
+    if word == b"export".as_slice() {
+        return Some(OperatorLine::Export { path: argument });
     }
+    if word == b"drop".as_slice() {
+        return drop_line(argument);
+    }
+    if word == b"freeze".as_slice() {
+        return Some(OperatorLine::Freeze { team: argument });
+    }
+    if word == b"thaw".as_slice() {
+        return Some(OperatorLine::Thaw { team: argument });
+    }
+    None
 }
 
 /// Reads the fields of a line.
