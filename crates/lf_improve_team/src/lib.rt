@@ -17,11 +17,11 @@
 //! From `crates/lf_task_improve/src/improving.rt`:
 //!
 //! ```
-//! let wish = ImproveWish {
+//! let goal = ImproveWish {
 //!     options: plan.options,
 //!     length,
 //! };
-//! match improve_team(alloc, floor, name, &plan.wires, &wish, &plan.search, lines) {
+//! match improve_team(alloc, floor, name, &plan.wires, &goal, &plan.search, lines) {
 //!     Ok(done) => Ok(done),
 //!     Err(_) => Err(Fault::SetupOutOfMemory),
 //! }

@@ -10,7 +10,7 @@
 //! Functions that are a whole task return the exit status: 0, or 4 if the design is not fully
 //! legal. Otherwise they return the fault, which is not printed here.
 //!
-//! Used by `lf_task_wires`, `lf_task_serve`, `lf_task_repair`, `lf_task_improve` and `lf_app`.
+//! Used by `lf_app` and the crates `lf_task_*` of tasks.
 //!
 //! Modules, in reading order:
 //!
@@ -31,9 +31,9 @@
 //! From `crates/lf_task_serve/src/serve_task.rt`:
 //!
 //! ```
-//! check_outputs(outputs, &mut around.exports)?;
-//! serve_source(alloc, around, floor, lines)?;
-//! write_outputs(floor, original, outputs, &mut around.exports)?;
+//! check_outputs(outputs, &mut environment.exports)?;
+//! serve_source(alloc, environment, floor, lines)?;
+//! write_outputs(floor, original, outputs, &mut environment.exports)?;
 //! Ok(0)
 //! ```
 #![tactic(auto)]
