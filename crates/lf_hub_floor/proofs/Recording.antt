@@ -2,8 +2,7 @@
 use Rattle.std.proofs.Common.{◌≡◌, ℕ, zero, suc, ◌+◌, ◌-◌, ◌/◌, ◌%◌, ◌<◌, List, [], ◌∷◌, ◌++◌, length, take, get_or, Bool, true, false, ◌==◌, ◌&&◌, not, cond, Option, Some, None, refl, ap, sym, ◌∙◌, subst, arith, append-nil, ℤ, pos, negsuc}
 use Rattle.std.specs.Prelude.{decimal, codes, nat_le, option_and_then}
 use Rattle.std.specs.List.{list_all, join_with_byte}
-use Rattle.std.specs.Fmt.{signed_decimal}
-use Rattle.core.specs.Fmt.{digits, digits_onto, digit_glyph}
+use Rattle.std.specs.Fmt.{signed_decimal, digits, digits_onto, digit_glyph}
 use Rattle.std.proofs.lemmas.Bool.{and_parts, false≢true}
 use Rattle.std.proofs.lemmas.Bool.Decides.{nat_tests}
 use Rattle.std.proofs.lemmas.List.Folds.{list_all-append, list_all_more}
@@ -95,15 +94,16 @@ glyph_plain n = digit (n % 10) (omega arith) where
   digit : (d : ℕ) → d < 10 → is_plain (digit_glyph false d) ≡ true
   digit d low = grind (arith, nat_tests)
 
+either_line : (b : Bool) (xs ys : List ℕ) → is_line xs ≡ true → is_line ys ≡ true → is_line (cond b xs ys) ≡ true
+either_line true xs ys first second = first
+either_line false xs ys first second = second
+
 digits_line : (k n : ℕ) (acc : List ℕ) → is_line acc ≡ true → is_line (digits_onto k 10 false n acc) ≡ true
 digits_line zero n acc line = line
-digits_line (suc k) n acc line = by (n / 10 == 0) where
-  next : is_line (digit_glyph false (n % 10) ∷ acc) ≡ true
-  next = cons_line (digit_glyph false (n % 10)) acc (glyph_plain n) line
-
-  by : (b : Bool) → is_line (cond b (digit_glyph false (n % 10) ∷ acc) (digits_onto k 10 false (n / 10) (digit_glyph false (n % 10) ∷ acc))) ≡ true
-  by true = next
-  by false = digits_line k (n / 10) (digit_glyph false (n % 10) ∷ acc) next
+digits_line (suc k) n acc line =
+    let more = digit_glyph false (n % 10) ∷ acc in
+    let next : is_line more ≡ true = cons_line (digit_glyph false (n % 10)) acc (glyph_plain n) line in
+    either_line (n / 10 == 0) more (digits_onto k 10 false (n / 10) more) next (digits_line k (n / 10) more next)
 
 decimal_line : (n : ℕ) → is_line (decimal n) ≡ true
 unfolding digits
@@ -136,12 +136,12 @@ words_line (w ∷ v ∷ ws) are =
 
 reply_are_words : (reply : Reply) (a b : List ℕ) → is_ok reply ≡ true → is_long reply ≡ false → AreWords (reply_words reply a b)
 reply_are_words Done a b ok short = (refl, tt)
-reply_are_words (Opened session revision) a b ok short = (refl, decimal_line session, decimal_line revision, tt)
-reply_are_words (Revision revision) a b ok short = (refl, decimal_line revision, tt)
-reply_are_words (At place) a b ok short = (refl, signed_line place.x, signed_line place.y, orient_line place.orient, tt)
+reply_are_words (Opened session revision) a b ok short = (refl, (decimal_line session, (decimal_line revision, tt)))
+reply_are_words (Revision revision) a b ok short = (refl, (decimal_line revision, tt))
+reply_are_words (At place) a b ok short = (refl, (signed_line place.x, (signed_line place.y, (orient_line place.orient, tt))))
 reply_are_words (Legalized revision place) a b ok short =
-    (refl, decimal_line revision, signed_line place.x, signed_line place.y, orient_line place.orient, tt)
-reply_are_words (Tidied revision moved) a b ok short = (refl, decimal_line revision, decimal_line moved, tt)
+    (refl, (decimal_line revision, (signed_line place.x, (signed_line place.y, (orient_line place.orient, tt)))))
+reply_are_words (Tidied revision moved) a b ok short = (refl, (decimal_line revision, (decimal_line moved, tt)))
 reply_are_words (Report text) a b ok short = absurd (false≢true (sym short))
 reply_are_words (Def text) a b ok short = absurd (false≢true (sym short))
 reply_are_words (Refused refusal) a b ok short = absurd (false≢true ok)

@@ -28,8 +28,9 @@ pub enum HubLine<N> {
 fn are_label_bytes(name: &[u8]) -> bool
     ensures { result ≡ list_all is_label_byte name.now }
 {
-    name.iter()
-        .all(|byte| matches!(*byte, b'a'..=b'z' | b'A'..=b'Z' | b'0'..=b'9' | b'_' | b'.' | b'-' | b'@'))
+    name.iter().all(
+        |byte| matches!(*byte, b'a'..=b'z' | b'A'..=b'Z' | b'0'..=b'9' | b'_' | b'.' | b'-' | b'@'),
+    )
 }
 
 /// Returns whether the name may be a label.

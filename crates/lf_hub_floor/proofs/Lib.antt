@@ -1,0 +1,5 @@
+mod LongReplies
+mod Recording
+mod LineCases
+mod Runs
+mod OwnReplies
