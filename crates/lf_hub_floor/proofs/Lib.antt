@@ -3,3 +3,4 @@ mod Recording
 mod LineCases
 mod Runs
 mod OwnReplies
+mod Guests
