@@ -35,7 +35,7 @@ use Rattle.lf_floor_model.proofs.Forms.{answer_by, found_at, found_own, located_
 use Rattle.lf_server.specs.Exchanges.{StepsOn, name_in, reply_cells, reply_text_of}
 use Rattle.lf_hub_floor.specs.Answers.{is_query_action}
 use Rattle.lf_hub_floor.specs.Guests.{IsFullFor, IsGuest, with_guest, with_team}
-use Rattle.lf_hub_floor.specs.QueryAnswers.{ShowsOrder, ShowsReply, guest_answer, guest_at, guest_reply, if_free, queries_only, reply_within}
+use Rattle.lf_hub_floor.specs.QueryAnswers.{ShowsOrder, ShowsReply, guest_reply, if_free, queries_only, reply_within}
 use Rattle.lf_hub_floor.proofs.LongReplies.{kept_unless_lasting, step_answers}
 
 -- ---- steps that allocate nothing
@@ -197,18 +197,6 @@ module _ (old : FloorState) (team : List ℕ) (session revision : ℕ) (mid : Fl
       let answers = by_short l mid new (To team (Within session Close)) reply (is_short reply) step refl in
       answers.floor_is ∙ (ap (λ (f : FloorState). (answer_of l f (To team (Within session Close))).floor) guest.is ∙ close_answer l)
 
--- The answer to a command of no team.
-no_number : (l : Legalizer) (floor : FloorState) (team : List ℕ) (order : TeamCommand (List ℕ) Place) → team_number floor.frame team ≡ None
-    → (answer_of l floor (To team order)).reply ≡ Refused NoTeam
-unfolding answer_of
-no_number l floor team order none = ap (λ (o : Option ℕ). (answer_at o l floor order).reply) none
-
-no_state : (l : Legalizer) (floor : FloorState) (team : List ℕ) (number : ℕ) (order : TeamCommand (List ℕ) Place) → team_number floor.frame team ≡ Some number
-    → slice_get floor.teams number ≡ None → (answer_of l floor (To team order)).reply ≡ Refused NoTeam
-unfolding answer_of
-no_state l floor team number order named none =
-    ap (λ (o : Option ℕ). (answer_at o l floor order).reply) named ∙ ap (λ (o : Option TeamState). (answer_by o l floor number order).reply) none
-
 short_is : (reply : Reply) → is_short reply ≡ true → reply ≡ Refused OutOfMemory
 short_is (Refused OutOfMemory) short = refl
 short_is _ short = absurd (false≢true short)
@@ -308,18 +296,18 @@ state_is : (floor : FloorState) (team : List ℕ) (number : ℕ) (s : TeamState)
     → state_of floor team ≡ Some s
 state_is floor team number s named there = ap (state_at floor.teams) named ∙ there
 
--- What is expected of a team's command.
-expected_of : (l : Legalizer) (floor : FloorState) (team : List ℕ) (number : ℕ) (order : TeamCommand (List ℕ) Place) (s : TeamState)
+-- The reply to a command, of the one state that the team has.
+pub shows_state : (l : Legalizer) (floor : FloorState) (team : List ℕ) (number : ℕ) (s : TeamState) (order : TeamCommand (List ℕ) Place) (expected : Reply) (text : List ℕ)
     → team_number floor.frame team ≡ Some number → slice_get floor.teams number ≡ Some s
-    → guest_answer l floor team order ≡ guest_reply (team_rules l floor.frame number s.padding) order s
-expected_of l floor team number order s named there =
-    ap (λ (o : Option ℕ). guest_at o l floor order) named
-    ∙ ap (λ (o : Option TeamState). option_map_or (λ s. guest_reply (team_rules l floor.frame number s.padding) order s) o (Some (Refused NoTeam))) there
-
-pub shows_order : (l : Legalizer) (floor : FloorState) (team : List ℕ) (order : TeamCommand (List ℕ) Place) (expected : Reply) (text : List ℕ)
-    → guest_answer l floor team order ≡ Some expected → ShowsReply floor team expected text → ShowsOrder l floor team order text
-shows_order l floor team order expected text is shows =
-    subst (λ (o : Option Reply). MatchOption o (text ≡ queries_only) (λ expected. ShowsReply floor team expected text)) (sym is) shows
+    → guest_reply (team_rules l floor.frame number s.padding) order s ≡ Some expected → ShowsReply floor team expected text
+    → ShowsOrder l floor team order text
+shows_state l floor team number s order expected text named there is shows = λ other t named' there'.
+    let number_is : number ≡ other = same_Some number other (sym named ∙ named') in
+    let state_is : s ≡ t = same_Some s t (sym there ∙ (ap (slice_get floor.teams) number_is ∙ there')) in
+    let P : ℕ → TeamState → Type 0 = λ n u. MatchOption (guest_reply (team_rules l floor.frame n u.padding) order u) (text ≡ queries_only)
+    (λ expected. ShowsReply floor team expected text) in
+    let here : P number s = subst (λ (o : Option Reply). MatchOption o (text ≡ queries_only) (λ expected. ShowsReply floor team expected text)) (sym is) shows in
+    subst (P other) state_is (subst (λ (n : ℕ). P n s) number_is here)
 
 -- A query in the session of a guest.
 pub guest_shows : (l : Legalizer) (old mid new : FloorState) (team : List ℕ) (session revision any : ℕ) (query : Action (List ℕ) Place) (reply : Reply) (text : List ℕ)
@@ -338,8 +326,7 @@ guest_shows l old mid new team session revision any query reply text guest is st
     let there : state_of new team ≡ Some look =
     ap (λ (f : FloorState). state_of f team) (query_keeps l mid new team session query reply is steps.step ∙ guest.is)
     ∙ state_is floor team guest.number look guest.named (team_there old team session revision mid guest) in
-    shows_order l old team (Within any query) expected text
-    (expected_of l old team guest.number (Within any query) guest.state guest.named guest.there ∙ guest_reply_is t any query guest.state is)
+    shows_state l old team guest.number guest.state (Within any query) expected text guest.named guest.there (guest_reply_is t any query guest.state is)
     record {
       reply = reply;
       is = said_by l mid new command reply expected (is_short reply) refl steps.step answer_is;
@@ -365,40 +352,19 @@ sessions_there old number s teams there =
     omega (arith, is.all_slots, old.frame.limits.allowed.sessions_within.least)
 
 -- A query in session 0, if no slot is free.
-module _ (l : Legalizer) (old : FloorState) (team : List ℕ) (any : ℕ) (query : Action (List ℕ) Place) (is : is_query_action query ≡ true)
-    (reply : Reply) (text : List ℕ) (new : FloorState) (steps : StepsOn l old (To team (Within 0 query)) reply text new) where
-  kept_text : text ≡ reply_text_of old team reply
-  kept_text = steps.text_is ∙ ap (λ (f : FloorState). reply_text_of f team reply) (query_keeps l old new team 0 query reply is steps.step)
-
-  shown_as : (expected : Reply) → (answer_of l old (To team (Within 0 query))).reply ≡ expected → guest_answer l old team (Within any query) ≡ Some expected
-      → ShowsOrder l old team (Within any query) text
-  shown_as expected answer_is guest_is = shows_order l old team (Within any query) expected text guest_is record {
-    reply = reply;
-    is = said_by l old new (To team (Within 0 query)) reply expected (is_short reply) refl steps.step answer_is;
-    text_is = kept_text;
-  }
-
-  full_state : (number : ℕ) (s : TeamState) → team_number old.frame team ≡ Some number → slice_get old.teams number ≡ Some s
-      → position is_none s.slots ≡ None → All (λ s. IsTeamOf old.frame s) old.teams → ShowsOrder l old team (Within any query) text
-  full_state number s named there full teams =
-      let t = team_rules l old.frame number s.padding in
-      let seen = some_seen (get_or s.slots 0 None) (none_is s.slots full (sessions_there old number s teams there)) in
-      shown_as (reply_within t query s)
-      (ap (λ (a : Answer). a.reply) (team_answer l old team number (Within 0 query) s named there)
-      ∙ (ap (λ (o : Option ℕ). (outcome_by_slot o t 0 query s).reply) seen.1 ∙ query_same t 0 seen.0 query s.slots s is))
-      (expected_of l old team number (Within any query) s named there ∙ guest_reply_is t any query s is)
-
-  full_number : (number : ℕ) → team_number old.frame team ≡ Some number → (o : Option TeamState) → slice_get old.teams number ≡ o
-      → IsFullFor old team old → All (λ s. IsTeamOf old.frame s) old.teams → ShowsOrder l old team (Within any query) text
-  full_number number named (Some s) there full teams = full_state number s named there (full.full number s named there) teams
-  full_number number named None none full teams = shown_as (Refused NoTeam)
-      (no_state l old team number (Within 0 query) named none)
-      (ap (λ (o : Option ℕ). guest_at o l old (Within any query)) named
-      ∙ ap (λ (o : Option TeamState). option_map_or (λ s. guest_reply (team_rules l old.frame number s.padding) (Within any query) s) o (Some (Refused NoTeam))) none)
-
-  pub full_shows : IsFullFor old team old → All (λ s. IsTeamOf old.frame s) old.teams → ShowsOrder l old team (Within any query) text
-  full_shows full teams = by (team_number old.frame team) refl where
-    by : (o : Option ℕ) → team_number old.frame team ≡ o → ShowsOrder l old team (Within any query) text
-    by (Some number) named = full_number number named (slice_get old.teams number) refl full teams
-    by None none = shown_as (Refused NoTeam) (no_number l old team (Within 0 query) none)
-        (ap (λ (o : Option ℕ). guest_at o l old (Within any query)) none)
+pub full_shows : (l : Legalizer) (old new : FloorState) (team : List ℕ) (any : ℕ) (query : Action (List ℕ) Place) (reply : Reply) (text : List ℕ)
+    → is_query_action query ≡ true → StepsOn l old (To team (Within 0 query)) reply text new
+    → IsFullFor old team old → All (λ s. IsTeamOf old.frame s) old.teams → ShowsOrder l old team (Within any query) text
+full_shows l old new team any query reply text is steps full teams = λ number s named there.
+    let t = team_rules l old.frame number s.padding in
+    let command : Command (List ℕ) Place = To team (Within 0 query) in
+    let expected = reply_within t query s in
+    let seen = some_seen (get_or s.slots 0 None) (none_is s.slots (full.full number s named there) (sessions_there old number s teams there)) in
+    let answer_is : (answer_of l old command).reply ≡ expected =
+    ap (λ (a : Answer). a.reply) (team_answer l old team number (Within 0 query) s named there)
+    ∙ (ap (λ (o : Option ℕ). (outcome_by_slot o t 0 query s).reply) seen.1 ∙ query_same t 0 seen.0 query s.slots s is) in
+    shows_state l old team number s (Within any query) expected text named there (guest_reply_is t any query s is) record {
+      reply = reply;
+      is = said_by l old new command reply expected (is_short reply) refl steps.step answer_is;
+      text_is = steps.text_is ∙ ap (λ (f : FloorState). reply_text_of f team reply) (query_keeps l old new team 0 query reply is steps.step);
+    } number s named there

@@ -1,7 +1,6 @@
 -- The reply to a line depends on the team's own state and the frame alone.
 use Rattle.std.proofs.Common.{◌≡◌, ◌≢◌, ◌⊎◌, inl, inr, ℕ, List, [], ◌∷◌, Bool, true, false, cond, Option, Some, None, refl, ap, sym, ◌∙◌, subst}
 use Rattle.std.specs.Prelude.{MatchBool, MatchOption, bytes_eq, option_and_then, slice_get, unwrap_or}
-use Rattle.std.specs.Option.{option_map_or}
 use Rattle.std.proofs.lemmas.Bool.{false≢true}
 use Rattle.std.proofs.lemmas.Option.{none-some, same_Some}
 use Rattle.std.proofs.lemmas.Slice.Eq.{bytes_eq-Decides}
@@ -28,7 +27,7 @@ use Rattle.lf_hub_clients.specs.declared.floor.Outcome.{Outcome}
 use Rattle.lf_hub_clients.specs.declared.floor.Outcome.TheVariants.{Unchanged, Named}
 use Rattle.lf_hub_clients.specs.Turns.{refusal}
 use Rattle.lf_hub_floor.specs.Answers.{AnswersLine, AnswersNoRequest, AnswersOwn, AnswersRequest, StaysOut, gives_label, is_own, name_of_team, outcome_of, request_on}
-use Rattle.lf_hub_floor.specs.QueryAnswers.{ShowsLine, ShowsOrder, ShowsOwn, ShowsReply, guest_answer, guest_at, guest_reply, queries_only}
+use Rattle.lf_hub_floor.specs.QueryAnswers.{ShowsLine, ShowsOrder, ShowsOwn, ShowsReply, guest_reply, queries_only}
 use Rattle.lf_hub_floor.specs.Laws.{AgreeOn, AreSameFor, QueriesAreOwn, RepliesAreOwn}
 use Rattle.lf_hub_floor.proofs.LongReplies.{step_answers}
 
@@ -182,26 +181,16 @@ module _ (l : Legalizer) (team : ℕ) (a b : FloorState) (agree : AgreeOn team a
       shown a agree.name text expected plain first
       ∙ (text_same a b agree.name expected (agree.in_first ∙ sym agree.in_second) ∙ sym (shown b agree.name text' expected plain' second))
 
-  -- What is expected on a floor in which the team has this number and state.
-  expected_is : (floor : FloorState) (number : ℕ) (order : TeamCommand (List ℕ) Place) → team_number floor.frame agree.name ≡ Some number
-      → state_of floor agree.name ≡ Some agree.state
-      → guest_answer l floor agree.name order ≡ guest_reply (team_rules l floor.frame number agree.state.padding) order agree.state
-  expected_is floor number order named there =
-      ap (λ (o : Option ℕ). guest_at o l floor order) named
-      ∙ ap (λ (o : Option TeamState). option_map_or (λ s. guest_reply (team_rules l floor.frame number s.padding) order s) o (Some (Refused NoTeam)))
-      (sym (ap (state_at floor.teams) named) ∙ there)
-
   order_same : (order : TeamCommand (List ℕ) Place) → ShowsOrder l a agree.name order text → ShowsOrder l b agree.name order text' → text ≡ text'
   order_same order first second =
       let number = (numbered a agree.name agree.state agree.in_first).0 in
       let named = (numbered a agree.name agree.state agree.in_first).1 in
       let named' : team_number b.frame agree.name ≡ Some number = sym (ap (λ (f : Frame). team_number f agree.name) agree.frame) ∙ named in
-      let same : guest_answer l b agree.name order ≡ guest_answer l a agree.name order =
-      expected_is b number order named' agree.in_second
-      ∙ (sym (ap (λ (f : Frame). guest_reply (team_rules l f number agree.state.padding) order agree.state) agree.frame)
-      ∙ sym (expected_is a number order named agree.in_first)) in
-      expected_same (guest_answer l a agree.name order) first
-      (subst (λ (o : Option Reply). MatchOption o (text' ≡ queries_only) (λ expected. ShowsReply b agree.name expected text')) same second)
+      let there : slice_get a.teams number ≡ Some agree.state = sym (ap (state_at a.teams) named) ∙ agree.in_first in
+      let there' : slice_get b.teams number ≡ Some agree.state = sym (ap (state_at b.teams) named') ∙ agree.in_second in
+      expected_same (guest_reply (team_rules l a.frame number agree.state.padding) order agree.state) (first number agree.state named there)
+      (subst (λ (f : Frame). MatchOption (guest_reply (team_rules l f number agree.state.padding) order agree.state) (text' ≡ queries_only)
+      (λ expected. ShowsReply b agree.name expected text')) (sym agree.frame) (second number agree.state named' there'))
 
   to_shown : (name : Option (List ℕ)) (command : Command (List ℕ) Place) → name ≡ Some agree.name → is_own name command ≡ true
       → ShowsOwn l a command text → ShowsOwn l b command text' → text ≡ text'

@@ -1,5 +1,5 @@
 -- The answers to the lines of a query socket, which change nothing.
-use Rattle.std.specs.Prelude.{◌≡◌, ◌⊎◌, ℕ, true, List, [], ◌∷◌, ◌++◌, Option, Some, None, position, is_none, slice_get, codes, MatchBool, MatchOption}
+use Rattle.std.specs.Prelude.{◌≡◌, ◌⊎◌, ℕ, true, List, [], ◌∷◌, ◌++◌, Option, Some, None, option_map, position, is_none, slice_get, codes, MatchBool, MatchOption}
 use Rattle.std.specs.Option.{option_map_or}
 use Rattle.lf_floorplan.specs.declared.place.Place.{Place}
 use Rattle.lf_rules.specs.Legalizer.{Legalizer}
@@ -20,9 +20,12 @@ use Rattle.lf_floor_model.specs.Verbs.{outcome_within}
 use Rattle.lf_server.specs.Exchanges.{reply_text_of}
 use Rattle.lf_hub_floor.specs.Answers.{is_own, name_of_team, request_on}
 
--- The reply if the team has a free session slot.
-abbrev pub if_free : TeamState → Reply → Reply
-if_free s reply = option_map_or (λ slot. reply) (position is_none s.slots) (Refused SessionsFull)
+-- The team's revision if it has a free session slot, and the reply that names it.
+abbrev pub revision_if_free : TeamState → Option ℕ
+revision_if_free s = option_map (λ slot. s.revision) (position is_none s.slots)
+
+abbrev pub if_free : TeamState → (ℕ → Reply) → Reply
+if_free s reply = option_map_or reply (revision_if_free s) (Refused SessionsFull)
 
 -- The reply to an action, of a session that has seen the revision.
 abbrev pub reply_within : TeamRules → Action (List ℕ) Place → TeamState → Reply
@@ -31,24 +34,14 @@ reply_within t action s = (outcome_within s.revision t 0 action s).reply
 -- The reply to a team's command on a query socket. A query gets the reply that it gets in any session.
 -- `open` and `sync` name the revision. None if the command is a change.
 abbrev pub guest_reply : TeamRules → TeamCommand (List ℕ) Place → TeamState → Option Reply
-guest_reply t Open s = Some (if_free s (Opened 0 s.revision))
+guest_reply t Open s = Some (if_free s (λ revision. Opened 0 revision))
 guest_reply t (Within session Close) s = Some Done
-guest_reply t (Within session Sync) s = Some (if_free s (Revision s.revision))
+guest_reply t (Within session Sync) s = Some (if_free s (λ revision. Revision revision))
 guest_reply t (Within session Check) s = Some (reply_within t Check s)
 guest_reply t (Within session Def) s = Some (reply_within t Def s)
 guest_reply t (Within session (Where name)) s = Some (reply_within t (Where name) s)
 guest_reply t (Within session (Find name target)) s = Some (reply_within t (Find name target) s)
 guest_reply t (Within session (Changing change)) s = None
-
--- The same on a floor.
-abbrev pub guest_at : Option ℕ → Legalizer → FloorState → TeamCommand (List ℕ) Place → Option Reply
-guest_at None l floor order = Some (Refused NoTeam)
-guest_at (Some number) l floor order =
-    option_map_or (λ s. guest_reply (team_rules l floor.frame number s.padding) order s) (slice_get floor.teams number)
-    (Some (Refused NoTeam))
-
-abbrev pub guest_answer : Legalizer → FloorState → List ℕ → TeamCommand (List ℕ) Place → Option Reply
-guest_answer l floor name order = guest_at (team_number floor.frame name) l floor order
 
 -- The text is that of this reply to the team, or of `OutOfMemory` in its place.
 pub record ShowsReply (floor : FloorState) (name : List ℕ) (expected : Reply) (text : List ℕ) : Type 0 where
@@ -60,9 +53,12 @@ pub record ShowsReply (floor : FloorState) (name : List ℕ) (expected : Reply) 
 abbrev pub queries_only : List ℕ
 queries_only = codes "no 15 QueriesOnly" ++ 10 ∷ []
 
+-- A command of the team of this name gets this text.
 abbrev pub ShowsOrder : Legalizer → FloorState → List ℕ → TeamCommand (List ℕ) Place → List ℕ → Type 0
 ShowsOrder l floor name order text =
-    MatchOption (guest_answer l floor name order) (text ≡ queries_only) (λ expected. ShowsReply floor name expected text)
+    (number : ℕ) (s : TeamState) → team_number floor.frame name ≡ Some number → slice_get floor.teams number ≡ Some s
+    → MatchOption (guest_reply (team_rules l floor.frame number s.padding) order s) (text ≡ queries_only)
+    (λ expected. ShowsReply floor name expected text)
 
 abbrev pub ShowsOwn : Legalizer → FloorState → Command (List ℕ) Place → List ℕ → Type 0
 ShowsOwn l floor Bye text = text ≡ reply_text Done [] []
