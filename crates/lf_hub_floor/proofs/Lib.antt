@@ -1,6 +1,8 @@
-mod LongReplies
-mod Recording
-mod LineCases
-mod Runs
-mod OwnReplies
-mod Guests
+pub mod LongReplies
+pub mod Recording
+pub mod LineCases
+pub mod Runs
+pub mod OwnReplies
+pub mod Guests
+pub mod Executing
+pub mod ClosingLines

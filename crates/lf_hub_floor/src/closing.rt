@@ -25,6 +25,7 @@ use lf_server::request_of_line;
 const NAME: usize = 1024;
 
 /// Writes the line that closes a session of the team of this name into an empty buffer.
+#[tactic(auto, using(crate::proofs::ClosingLines::close_line))]
 fn put_close(line: &mut Vec<u8>, team: &[u8], session: u32)
     requires empty { line.old.items ≡ [] }
     requires room { 4096 ≤ vec_capacity line.old }
@@ -84,6 +85,7 @@ fn write_close<K: Seeker + Drop>(
 }
 
 /// Closes a session of the team of this number: writes the line that does so, and answers it.
+#[tactic(auto, using(crate::proofs::ClosingLines::closes_outcome, crate::proofs::ClosingLines::closes_no_query))]
 pub(crate) fn close_session<K: Seeker + Drop>(
     floor: &mut Floor<K>,
     team: u32,

@@ -52,6 +52,7 @@ fn query_in<'a>(action: &Action<&'a [u8]>) -> Option<Action<&'a [u8]>>
 
 /// Opens a session of the team of this name. `None` if no slot is free, or if there is no such team;
 /// then the floor is as it was.
+#[tactic(auto, using(crate::proofs::Guests::opens_guest, crate::proofs::Guests::opens_none))]
 fn begin<K: Seeker + Drop>(floor: &mut Floor<K>, team: &[u8]) -> Option<Guest>
     ensures { MatchOption result (IsFullFor floor.old team.now floor.new)
         (λ guest. IsGuest floor.old team.now guest.session guest.revision floor.new) }
@@ -68,6 +69,7 @@ fn begin<K: Seeker + Drop>(floor: &mut Floor<K>, team: &[u8]) -> Option<Guest>
 }
 
 /// Closes the session. The floor is then as it was before it was opened.
+#[tactic(auto, using(crate::proofs::Guests::closes_guest))]
 fn end<K: Seeker + Drop>(floor: &mut Floor<K>, team: &[u8], session: u32)
     ensures { (before : FloorState) (revision : ℕ) → IsGuest before team.now session revision floor.old
         → floor.new ≡ before }
@@ -109,6 +111,7 @@ fn ask_in<K: Seeker + Drop>(
 
 /// Answers a query of the team in a session that is opened for it, or in session 0 if no slot is
 /// free.
+#[tactic(auto, using(crate::proofs::Guests::guest_shows, crate::proofs::Guests::full_shows, crate::proofs::Guests::query_keeps))]
 fn look_query<K: Seeker + Drop>(
     floor: &mut Floor<K>,
     team: &[u8],

@@ -44,6 +44,7 @@ fn write_long_reply(text: &mut Vec<u8>, reply: &Reply) -> bool
 
 /// Writes the text of a reply to one of the team's commands into an empty buffer. False if an
 /// allocation fails; then nothing is written, and the reply is a report or a DEF text.
+#[tactic(auto, using(crate::proofs::Executing::long_text))]
 pub(crate) fn write_reply<K: Seeker + Drop>(
     text: &mut Vec<u8>,
     floor: &Floor<K>,
