@@ -3,7 +3,8 @@
 ghost use Rattle.std.specs.Prelude.{◌≡◌, option_and_then, option_map};
 ghost use Rattle.std.specs.List.{list_all};
 ghost use Rattle.lf_proto.specs.Numbers.{session_number};
-ghost use Rattle.lf_hub_lines.specs.HubLines.{hub_line_in, hub_line_on, hub_line_with_names, is_label, is_label_byte, label_of, units_of, wait_of};
+ghost use Rattle.lf_hub_lines.specs.HubLines.{hub_line_in, hub_line_on, hub_line_with_names};
+ghost use Rattle.lf_hub_lines.specs.HubLines.{is_label, is_label_byte, label_of, units_of, wait_of};
 
 use crate::words::fields_of;
 use bstr::Fields;

@@ -1,7 +1,8 @@
 //! The lines of the operator that the hub answers itself.
 
 ghost use Rattle.std.specs.Prelude.{◌≡◌, option_map};
-ghost use Rattle.lf_hub_lines.specs.OperatorLines.{alone_named, drop_of, operator_line_in, operator_line_on, operator_line_with_names, with_argument};
+ghost use Rattle.lf_hub_lines.specs.OperatorLines.{alone_named, drop_of, operator_line_in, operator_line_on};
+ghost use Rattle.lf_hub_lines.specs.OperatorLines.{operator_line_with_names, with_argument};
 
 use crate::words::fields_of;
 use bstr::Fields;
