@@ -69,7 +69,7 @@ GROUPS = {
         "lf_hub lf_hub_*",
         "many clients over one floor. `_clients` has the lines and replies of connections, `_turns` says whose line is"
         " next, and `lf_hub` joins them and has the laws. It knows no socket and no disk. `_lines` reads the lines that"
-        " the hub answers itself. No program uses these crates yet: the hub that runs is `front/lefence/hub`",
+        " the hub answers itself, and `_floor` is the floor that answers the others. No program uses these crates yet: the hub that runs is `front/lefence/hub`",
     ),
     "floor": Group(
         "lf_floor lf_floor_*",
@@ -178,11 +178,11 @@ RULES = (
         "A verdict or a search needs a frame and cells, wherever they come from.",
     ),
     Rule(
-        "hub -lf_hub_lines",
+        "hub -lf_hub_lines -lf_hub_floor",
         Kind.INDEPENDENT,
         "texts loading placement protocol floor state io",
         "What a hub does with lines does not depend on what they mean, nor on sockets and disks. Only `lf_hub_lines`"
-        " reads lines.",
+        " and `lf_hub_floor` know lines.",
     ),
     Rule(
         "lf_hub_lines",

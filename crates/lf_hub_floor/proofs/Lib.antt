@@ -1,0 +1,5 @@
+pub mod LongReplies
+pub mod Recording
+pub mod LineCases
+pub mod Runs
+pub mod OwnReplies
