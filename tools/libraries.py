@@ -69,7 +69,8 @@ GROUPS = {
         "lf_hub lf_hub_*",
         "many clients over one floor. `_clients` has the lines and replies of connections, `_turns` says whose line is"
         " next, and `lf_hub` joins them and has the laws. It knows no socket and no disk. `_lines` reads the lines that"
-        " the hub answers itself, and `_floor` is the floor that answers the others. No program uses these crates yet: the hub that runs is `front/lefence/hub`",
+        " the hub answers itself, and `_floor` says how the floor answers the others. No program uses these crates yet:"
+        " the hub that runs is `front/lefence/hub`",
     ),
     "floor": Group(
         "lf_floor lf_floor_*",
