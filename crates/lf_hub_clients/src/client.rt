@@ -1,6 +1,6 @@
 //! One connection of a hub.
 
-ghost use Rattle.std.specs.Prelude.{◌≡◌, ◌≤◌, ◌+◌, ◌++◌, ◌∷◌, ◌⊎◌, [], ℕ, IfOk, OnErr, OnOk, length, take, min, true, false, vec_capacity, vec_len};
+ghost use Rattle.std.specs.Prelude.{◌≡◌, ◌≤◌, ◌+◌, ◌++◌, ◌∷◌, ◌⊎◌, [], ℕ, IfOk, OnErr, OnOk, length, nat_lt, take, min, true, false, vec_capacity, vec_len};
 ghost use Rattle.lf_hub_clients.specs.Connections.{new_connection, with_bytes, with_answer, released, after_sending, leaving, freed, room_of, may_answer, turn_of, label_after, stage_after};
 ghost use Rattle.lf_hub_clients.specs.Lines.{waiting_limit};
 ghost use Rattle.lf_hub_clients.specs.Turns.{IsAnswered, is_change, refusal, sent_turn, short_limit};
@@ -245,6 +245,13 @@ impl Client {
             Stage::Leaving => 0,
             Stage::Free => 0,
         }
+    }
+
+    /// Returns whether the client has begun a line that has not ended.
+    pub fn has_begun(&self) -> bool
+        ensures { result ≡ nat_lt 0 (length self.now.begun) }
+    {
+        self.lines.has_begun()
     }
 
     /// Returns whether the next line may be answered.

@@ -140,6 +140,13 @@ impl LineQueue {
         self.count > 0
     }
 
+    /// Returns whether a line has begun that has not ended.
+    pub fn has_begun(&self) -> bool
+        ensures { result ≡ nat_lt 0 (length self.now.begun) }
+    {
+        self.begun > 0
+    }
+
     /// Returns how many more bytes may come.
     pub fn room(&self) -> usize
         ensures room { result + waiting_size self.now ≡ waiting_limit }

@@ -1,0 +1,3 @@
+pub mod Services
+pub mod Records
+pub mod Runs
