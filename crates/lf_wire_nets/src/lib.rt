@@ -25,13 +25,13 @@
 //! - `shapes`: the rectangles and polygons of a port
 //! - `pins`: the pins of macros
 //! - `macros`: the statements of MACRO
-//! - `read_pins`: the statements of a LEF text
+//! - `pins_reader`: the statements of a LEF text
 //! - `design_pins`: the pins of the design
 //! - `net_terms`: the terms of nets
 //! - `nets`: the nets
 //! - `design_nets`: the pins and nets that were read so far
 //! - `sections`: the sections PINS and NETS
-//! - `read_nets`: the statements of a DEF text
+//! - `nets_reader`: the statements of a DEF text
 //! - `texts`: the texts of a design
 //! - `first_names`: the positions of the first entries with each name
 //! - `names`: the names of cells, components, pins and macros
@@ -63,10 +63,10 @@ mod macros;
 mod names;
 mod net_terms;
 mod nets;
+mod nets_reader;
 mod offsets;
 mod pins;
-mod read_nets;
-mod read_pins;
+mod pins_reader;
 mod rows;
 mod sections;
 mod shapes;
@@ -78,7 +78,7 @@ pub use design_pins::{DesignPin, DesignPort};
 pub use macros::MacroPins;
 pub use net_terms::NetTerm;
 pub use nets::DesignNet;
+pub use nets_reader::read_nets;
 pub use pins::MacroPin;
-pub use read_nets::read_nets;
-pub use read_pins::{LibraryPins, read_pins};
+pub use pins_reader::{LibraryPins, read_pins};
 pub use texts::DesignTexts;

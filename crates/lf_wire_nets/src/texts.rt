@@ -1,7 +1,7 @@
 //! The texts of a design.
 
 use crate::design_nets::DesignNets;
-use crate::read_pins::LibraryPins;
+use crate::pins_reader::LibraryPins;
 use lf_def::DefDoc;
 use lf_floorplan::Loaded;
 

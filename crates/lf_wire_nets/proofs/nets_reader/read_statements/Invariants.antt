@@ -4,7 +4,7 @@ use Rattle.lf_lex.specs.Reading.{block}
 use Rattle.lf_lex.proofs.Turns.{Going}
 use Rattle.lf_wire_nets.specs.NetTexts.{nets_statement, no_nets}
 use Rattle.lf_wire_nets.specs.NetRanges.{AreDesignNets}
-use Rattle.lf_wire_nets.proofs.read_nets.read_statements.Given as goal
+use Rattle.lf_wire_nets.proofs.nets_reader.read_statements.Given as goal
 
 abbrev pub invariant-loop-nets : goal.invariant-loop-nets
 invariant-loop-nets l = record {

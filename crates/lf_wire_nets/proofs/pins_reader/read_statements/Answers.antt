@@ -5,7 +5,7 @@ use Rattle.lf_lex.specs.Reading.{ReadValue, value_of}
 use Rattle.lf_lex.proofs.Turns.{turn_on, turn_ends, turn_fails, fails_too}
 use Rattle.lf_wire_nets.specs.declared.macros.MacroPins.{MacroPins}
 use Rattle.lf_wire_nets.specs.LibraryPins.{macros_statement}
-use Rattle.lf_wire_nets.proofs.read_pins.read_statements.Goals as goal
+use Rattle.lf_wire_nets.proofs.pins_reader.read_statements.Goals as goal
 
 pub returns-in_err-statement-clause-fault : goal.returns-in_err-statement-clause-fault
 returns-in_err-statement-clause-fault c =

@@ -5,7 +5,7 @@ use Rattle.lf_lex.specs.Reading.{block}
 use Rattle.lf_lex.proofs.Turns.{Going}
 use Rattle.lf_wire_nets.specs.MacroPins.{HasMacroPins}
 use Rattle.lf_wire_nets.specs.LibraryPins.{macros_statement}
-use Rattle.lf_wire_nets.proofs.read_pins.read_statements.Given as goal
+use Rattle.lf_wire_nets.proofs.pins_reader.read_statements.Given as goal
 
 abbrev pub invariant-loop : goal.invariant-loop
 invariant-loop l = record {
