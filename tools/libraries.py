@@ -68,7 +68,8 @@ GROUPS = {
     "hub": Group(
         "lf_hub lf_hub_*",
         "many clients over one floor. `_clients` has the lines and replies of one connection, `_turns` says whose line"
-        " is next, and `lf_hub` proves laws of all of them. It knows no socket and no disk",
+        " is next, and `lf_hub` proves laws of all of them. `_wire` is its sockets, and `_serve` has the rounds over a"
+        " wire and a journal. The others know no socket and no disk",
     ),
     "floor": Group(
         "lf_floor lf_floor_*",
@@ -113,7 +114,10 @@ PARTS = {
         "lf_io::Source lf_io::Sink lf_io::FromRead lf_io::ToWrite lf_io::DeviceFault lf_io::send",
         "the part of io without files and outputs",
     ),
-    "sockets": Group("std::net lf_server::Acceptor lf_task_serve::PortListener", "what listens and accepts clients"),
+    "sockets": Group(
+        "std::net lf_server::Acceptor lf_task_serve::PortListener lf_hub_wire::Sockets",
+        "what listens and accepts clients",
+    ),
 }
 
 

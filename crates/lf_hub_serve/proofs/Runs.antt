@@ -44,9 +44,9 @@ sent-more w n m bytes false e = append-nil (w.sent n)
 sent-by : (n : ℕ) (w : World) (e : HubEvent) (made : List Call) → IsOnWire w.hub e made → w.sent n ++ sent_to n made ≡ (happens w e).sent n
 sent-by n w (Opens slot team access) made is = ap (λ l. w.sent n ++ sent_to n l) is ∙ append-nil (w.sent n)
 sent-by n w (Comes slot bytes) made is = elim is as (λ _. w.sent n ++ sent_to n made ≡ w.sent n) [
-    | inl came ↦ ap (λ l. w.sent n ++ sent_to n l) came ∙ append-nil (w.sent n)
-    | inr ended ↦ ap (λ l. w.sent n ++ sent_to n l) ended.0 ∙ append-nil (w.sent n)
-  ]
+  | inl came ↦ ap (λ l. w.sent n ++ sent_to n l) came ∙ append-nil (w.sent n)
+  | inr ended ↦ ap (λ l. w.sent n ++ sent_to n l) ended.0 ∙ append-nil (w.sent n)
+]
 sent-by n w (Answers slot t) made is = ap (λ l. w.sent n ++ sent_to n l) is ∙ append-nil (w.sent n)
 sent-by n w (Closes slot s t) made is = ap (λ l. w.sent n ++ sent_to n l) is ∙ append-nil (w.sent n)
 sent-by n w Syncs made is = ap (λ l. w.sent n ++ sent_to n l) is ∙ append-nil (w.sent n)

@@ -1,12 +1,15 @@
 -- Services that events lead from one to another.
-use Rattle.std.proofs.Common.{◌≡◌, ◌<◌, ◌⊎◌, ℕ, List, [], ◌∷◌, ◌++◌, refl, sym, ap, subst, ◌∙◌, inl, inr, true, append_assoc, append-nil}
+use Rattle.std.proofs.Common.{◌≡◌, ◌<◌, ◌⊎◌, ℕ, List, [], ◌∷◌, ◌++◌, refl, sym, ap, subst, ◌∙◌, inl, inr, true, take, append_assoc, append-nil}
 use Rattle.lf_hub_clients.specs.Turns.{Turn}
-use Rattle.lf_hub.specs.Machine.{Hub, HubEvent, Opens, Comes, Answers, Closes, Syncs, Sends, Leaves, Frees, after}
-use Rattle.lf_hub.specs.Progress.{Advances, CoreState}
+use Rattle.lf_hub_clients.specs.declared.client.Access.{Access}
+use Rattle.lf_hub_clients.specs.Connections.{Connection, new_connection}
+use Rattle.lf_hub.specs.Machine.{Hub, HubEvent, Opens, Comes, Answers, Closes, Syncs, Sends, Leaves, Frees, after, May, connection_at}
+use Rattle.lf_hub.proofs.Slots.{put-same}
+use Rattle.lf_hub.specs.Progress.{Advances, CoreState, last_turn, last_closing}
 use Rattle.lf_hub.specs.declared.hub_core.Progress.{Progress}
 use Rattle.lf_hub.specs.declared.hub_core.Progress.TheVariants.{Idle, Passed, Answered, Closed as ClosedOne, Freed}
-use Rattle.lf_hub_wire.specs.Calls.{Call}
-use Rattle.lf_hub_serve.specs.Serving.{Service, Happens, Follow, Serves, Breaks, brings, saved_by}
+use Rattle.lf_hub_wire.specs.Calls.{Call, Accepted, Numbered, Came, Ended, Sent, Closed}
+use Rattle.lf_hub_serve.specs.Serving.{Service, Happens, Follow, Serves, Breaks, brings, saved_by, number_in, last_feed}
 
 abbrev pub with_saved : {S : Type 0} → List ℕ → Service S → Service S
 with_saved before s = record s { saved = before ++ s.saved }
@@ -82,17 +85,20 @@ module _ {S : Type 0} (takes : S → Turn → S → Type 0) where
 
   -- ---- turns
 
-  abbrev pub at : CoreState → S → List Call → Service S
-  at core floor calls = record { hub = core.hub; floor = floor; calls = calls; saved = [] }
+  abbrev pub service : Hub → S → List Call → Service S
+  service hub floor calls = record { hub = hub; floor = floor; calls = calls; saved = [] }
+
+  pub same_service : (g h : Hub) (floor next : S) (l m : List Call) → h ≡ g → next ≡ floor → m ≡ l → Serves takes (service g floor l) (service h next m)
+  same_service g h floor next l m e f c =
+      serves_same (service g floor l) (service h next m)
+      (ap (λ (x : Hub). service x next m) e ∙ ap (λ (x : S). service g x m) f ∙ ap (λ (x : List Call). service g floor x) c)
 
   pub advanced : (old : CoreState) (floor : S) (p : Progress) (new : CoreState) (next : S) (calls : List Call)
-      → Advances takes old floor p new next → Serves takes (at old floor calls) (at new next calls)
-  advanced old floor Idle new next calls a =
-      serves_same (at old floor calls) (at new next calls) (ap (λ (h : Hub). record { hub = h; floor = next; calls = calls; saved = [] }) a.1 ∙ ap (λ (s : S). record { hub = old.hub; floor = s; calls = calls; saved = [] }) a.3)
-  advanced old floor (Passed slot stays) new next calls a =
-      serves_same (at old floor calls) (at new next calls) (ap (λ (h : Hub). record { hub = h; floor = next; calls = calls; saved = [] }) a.1 ∙ ap (λ (s : S). record { hub = old.hub; floor = s; calls = calls; saved = [] }) a.3)
+      → Advances takes old floor p new next → Serves takes (service old.hub floor calls) (service new.hub next calls)
+  advanced old floor Idle new next calls a = same_service old.hub new.hub floor next calls calls a.1 a.3 refl
+  advanced old floor (Passed slot stays) new next calls a = same_service old.hub new.hub floor next calls calls a.1 a.3 refl
   advanced old floor (Answered slot outcome stays) new next calls a =
-      serves_one (at old floor calls) (at new next calls) _ (record {
+      serves_one (service old.hub floor calls) (service new.hub next calls) (Answers slot (last_turn old.hub slot outcome new)) (record {
         may = a.0.1;
         hub = a.0.2;
         floor = a.1;
@@ -102,7 +108,7 @@ module _ {S : Type 0} (takes : S → Turn → S → Type 0) where
         saved = refl;
       })
   advanced old floor (ClosedOne slot session outcome) new next calls a =
-      serves_one (at old floor calls) (at new next calls) _ (record {
+      serves_one (service old.hub floor calls) (service new.hub next calls) (Closes slot session (last_closing old.hub slot outcome new)) (record {
         may = a.0.1;
         hub = a.0.2;
         floor = a.1;
@@ -112,7 +118,7 @@ module _ {S : Type 0} (takes : S → Turn → S → Type 0) where
         saved = refl;
       })
   advanced old floor (Freed slot) new next calls a =
-      serves_one (at old floor calls) (at new next calls) (Frees slot) (record {
+      serves_one (service old.hub floor calls) (service new.hub next calls) (Frees slot) (record {
         may = a.0.1;
         hub = a.0.2;
         floor = a.2;
@@ -121,3 +127,96 @@ module _ {S : Type 0} (takes : S → Turn → S → Type 0) where
         calls = sym (append-nil calls);
         saved = refl;
       })
+
+  -- ---- events on the wire
+
+  pub opened : (g h : Hub) (floor : S) (l m n : List Call) (slot team number : ℕ) (access : Access)
+      → May g (Opens slot team access) → h ≡ after g (Opens slot team access) → number ≡ (connection_at slot h.slots).number
+      → m ≡ l ++ Accepted team access ∷ [] → n ≡ m ++ Numbered number ∷ [] → Serves takes (service g floor l) (service h floor n)
+  opened g h floor l m n slot team number access may e is p q =
+      let own : (connection_at slot h.slots).number ≡ g.made =
+      ap (λ (x : Hub). (connection_at slot x.slots).number) e
+      ∙ ap (λ (c : Connection). c.number) (put-same g.slots slot (new_connection g.made team access) may.0) in
+      serves_one (service g floor l) (service h floor n) (Opens slot team access) (record {
+        may = may;
+        hub = e;
+        floor = refl;
+        made = Accepted team access ∷ Numbered number ∷ [];
+        on_wire = ap (λ k. Accepted team access ∷ Numbered k ∷ []) (is ∙ own);
+        calls = q ∙ ap (λ x. x ++ Numbered number ∷ []) p ∙ append_assoc l (Accepted team access ∷ []) (Numbered number ∷ []);
+        saved = refl;
+      })
+
+  pub came : (g h : Hub) (floor : S) (l m : List Call) (slot number : ℕ) (bytes : List ℕ)
+      → May g (Comes slot bytes) → h ≡ after g (Comes slot bytes) → number ≡ number_in slot g
+      → m ≡ l ++ Came number bytes ∷ [] → Serves takes (service g floor l) (service h floor m)
+  came g h floor l m slot number bytes may e is p =
+      serves_one (service g floor l) (service h floor m) (Comes slot bytes) (record {
+        may = may;
+        hub = e;
+        floor = refl;
+        made = Came number bytes ∷ [];
+        on_wire = inl (ap (λ k. Came k bytes ∷ []) is);
+        calls = p;
+        saved = refl;
+      })
+
+  pub ended : (g h : Hub) (floor : S) (l m : List Call) (slot number : ℕ) (bytes : List ℕ)
+      → May g (Comes slot bytes) → h ≡ after g (Comes slot bytes) → number ≡ number_in slot g → bytes ≡ last_feed (connection_at slot g.slots)
+      → m ≡ l ++ Ended number ∷ [] → Serves takes (service g floor l) (service h floor m)
+  ended g h floor l m slot number bytes may e is feed p =
+      serves_one (service g floor l) (service h floor m) (Comes slot bytes) (record {
+        may = may;
+        hub = e;
+        floor = refl;
+        made = Ended number ∷ [];
+        on_wire = inr (ap (λ k. Ended k ∷ []) is, feed);
+        calls = p;
+        saved = refl;
+      })
+
+  pub sent : (g h : Hub) (floor : S) (l m : List Call) (slot number count : ℕ) (bytes : List ℕ)
+      → May g (Sends slot count) → h ≡ after g (Sends slot count) → number ≡ number_in slot g → bytes ≡ (connection_at slot g.slots).ready
+      → m ≡ l ++ Sent number (take count bytes) ∷ [] → Serves takes (service g floor l) (service h floor m)
+  sent g h floor l m slot number count bytes may e is ready p =
+      serves_one (service g floor l) (service h floor m) (Sends slot count) (record {
+        may = may;
+        hub = e;
+        floor = refl;
+        made = Sent number (take count bytes) ∷ [];
+        on_wire = ap (λ k. Sent k (take count bytes) ∷ []) is ∙ ap (λ b. Sent (number_in slot g) (take count b) ∷ []) ready;
+        calls = p;
+        saved = refl;
+      })
+
+  pub left : (g h : Hub) (floor : S) (l m : List Call) (slot number : ℕ)
+      → May g (Leaves slot) → h ≡ after g (Leaves slot) → number ≡ number_in slot g
+      → m ≡ l ++ Closed number ∷ [] → Serves takes (service g floor l) (service h floor m)
+  left g h floor l m slot number may e is p =
+      serves_one (service g floor l) (service h floor m) (Leaves slot) (record {
+        may = may;
+        hub = e;
+        floor = refl;
+        made = Closed number ∷ [];
+        on_wire = ap (λ k. Closed k ∷ []) is;
+        calls = p;
+        saved = refl;
+      })
+
+  pub synced : (g h : Hub) (floor : S) (l : List Call) → h ≡ after g Syncs
+      → Serves takes (service g floor l) (record { hub = h; floor = floor; calls = l; saved = g.records })
+  synced g h floor l e =
+      serves_one (service g floor l) (record { hub = h; floor = floor; calls = l; saved = g.records }) Syncs (record {
+        may = tt;
+        hub = e;
+        floor = refl;
+        made = [];
+        on_wire = refl;
+        calls = sym (append-nil l);
+        saved = refl;
+      })
+
+  -- what a call has brought is lost
+  pub lost : (g h : Hub) (floor : S) (l m : List Call) (call : Call) → brings call ≡ true → h ≡ g → m ≡ l ++ call ∷ [] → Breaks takes (service g floor l) (service h floor m)
+  lost g h floor l m call is e p =
+      breaks_lost (service g floor l) (service h floor m) call is (ap (λ (x : Hub). service x floor m) e ∙ ap (λ (x : List Call). service g floor x) p)

@@ -73,10 +73,7 @@ fn is_finished(client: &Client, has_ended: bool) -> bool {
 }
 
 /// Has the client in a slot leave if nothing is left to do for it.
-fn end_client<F: Floor, W: Wire>(
-    server: &mut Server<F, W>,
-    slot: usize,
-) -> Result<bool, AllocError>
+fn end_client<F: Floor, W: Wire>(server: &mut Server<F, W>, slot: usize) -> Result<bool, AllocError>
     ensures ok { OnOk result (Serves (IsAnswered F.answers F.shows)
         (service_of W.calls server.old []) (service_of W.calls server.new [])) }
     ensures err { OnErr result (Breaks (IsAnswered F.answers F.shows)
@@ -109,9 +106,7 @@ fn serve_slot<F: Floor, W: Wire>(server: &mut Server<F, W>, slot: usize) -> Resu
 }
 
 /// Sends all clients what may be sent, and ends those for which nothing is left to do.
-pub(crate) fn send_replies<F: Floor, W: Wire>(
-    server: &mut Server<F, W>,
-) -> Result<bool, AllocError>
+pub(crate) fn send_replies<F: Floor, W: Wire>(server: &mut Server<F, W>) -> Result<bool, AllocError>
     ensures ok { OnOk result (Serves (IsAnswered F.answers F.shows)
         (service_of W.calls server.old []) (service_of W.calls server.new [])) }
     ensures err { OnErr result (Breaks (IsAnswered F.answers F.shows)

@@ -14,7 +14,7 @@ pub(crate) fn take_order<F, W: Wire>(server: &mut Server<F, W>, line: &mut Vec<u
     if !server.wire.take_order(line) {
         return false;
     }
-    if line.as_slice() == b"stop" {
+    if line.as_slice() == b"stop".as_slice() {
         server.wire.answer_order(b"ok\n");
         return true;
     }

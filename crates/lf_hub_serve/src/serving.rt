@@ -100,7 +100,15 @@ pub fn serve_hub<F: Floor, W: Wire, D: Disk>(
     let mut line = Vec::new(alloc);
     let mut limit = 0;
     for _ in 0..u64::MAX {
-        match serve_round(alloc, clock, server, journal, &mut buffer, &mut slots, limit) {
+        match serve_round(
+            alloc,
+            clock,
+            server,
+            journal,
+            &mut buffer,
+            &mut slots,
+            limit,
+        ) {
             Ok(is_busy) => limit = if is_busy { 0 } else { PAUSE },
             Err(failure) => return Ending::Failed(failure),
         }

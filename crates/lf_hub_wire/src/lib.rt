@@ -36,8 +36,6 @@ mod streams;
 mod wire;
 
 pub use doors::Door;
-pub use record::{
-    ACCEPTED, CAME, CLOSED, ENDED, NUMBERED, ORDERED, Record, SENT, TOLD, code_of,
-};
+pub use record::{ACCEPTED, CAME, CLOSED, ENDED, NUMBERED, ORDERED, Record, SENT, TOLD, code_of};
 pub use sockets::Sockets;
 pub use wire::{Arrival, Incoming, Outgoing, Wire};
