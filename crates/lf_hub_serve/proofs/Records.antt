@@ -30,3 +30,7 @@ settled_keeps seen may_leave disk end len last c s left =
     let same : c ≡ seen disk = s.durable c left in
     subst (λ (f : List ℕ). KeepsRecords (records_of_file (seen disk)) last f) (sym same)
     ((settled_stands end (seen disk) s.text s.zeros s.room).1, inl refl)
+
+-- the same, with nothing saved before
+pub keeps_nil : (records last file : List ℕ) → KeepsRecords records last file → KeepsRecords (records ++ []) last file
+keeps_nil records last file k = subst (λ (r : List ℕ). KeepsRecords r last file) (sym (append-nil records)) k

@@ -3,7 +3,7 @@ use Rattle.std.proofs.Common.{◌≡◌, ◌≢◌, ◌<◌, ◌⊎◌, ℕ, Boo
 use Rattle.std.specs.Prelude.{◌==◌, if◌then◌else◌}
 use Rattle.std.specs.List.{flat_map}
 use Rattle.std.proofs.lemmas.Grind.{flat_map-append}
-use Rattle.std.proofs.lemmas.Bool.{eqb-eq}
+use Rattle.std.proofs.lemmas.Bool.{eqb-true}
 use Rattle.lf_hub_clients.specs.Turns.{Turn}
 use Rattle.lf_hub.specs.Machine.{Hub, HubEvent, Opens, Comes, Answers, Closes, Syncs, Sends, Leaves, Frees, after, May, connection_at, accepted, is_accepted, record_of, record_text}
 use Rattle.lf_hub.specs.World.{World, happens, run, Runs, start, with_entry, number_at}
@@ -37,7 +37,7 @@ happened w (Frees slot) = refl
 
 sent-more : (w : World) (n m : ℕ) (bytes : List ℕ) (b : Bool) → (n == m) ≡ b
     → w.sent n ++ (cond b bytes [] ++ []) ≡ cond b (w.sent m ++ bytes) (w.sent n)
-sent-more w n m bytes true e = ap (λ l. w.sent n ++ l) (append-nil bytes) ∙ ap (λ k. w.sent k ++ bytes) (eqb-eq n m e)
+sent-more w n m bytes true e = ap (λ l. w.sent n ++ l) (append-nil bytes) ∙ ap (λ k. w.sent k ++ bytes) (eqb-true n m e)
 sent-more w n m bytes false e = append-nil (w.sent n)
 
 -- the calls of an event send what it sends

@@ -1,8 +1,9 @@
 -- Services that events lead from one to another.
-use Rattle.std.proofs.Common.{◌≡◌, ◌<◌, ◌⊎◌, ℕ, List, [], ◌∷◌, ◌++◌, refl, sym, ap, subst, ◌∙◌, inl, inr, true, take, append_assoc, append-nil}
+use Rattle.std.proofs.Common.{◌≡◌, ◌<◌, ◌≤◌, ◌⊎◌, ℕ, List, [], ◌∷◌, ◌++◌, length, take_all, arith, refl, sym, ap, subst, ◌∙◌, inl, inr, true, take, append_assoc, append-nil}
+use Rattle.std.specs.Prelude.{min, cond, nat_lt, Bool, false}
 use Rattle.lf_hub_clients.specs.Turns.{Turn}
 use Rattle.lf_hub_clients.specs.declared.client.Access.{Access}
-use Rattle.lf_hub_clients.specs.Connections.{Connection, new_connection}
+use Rattle.lf_hub_clients.specs.Connections.{Connection, new_connection, room_of}
 use Rattle.lf_hub.specs.Machine.{Hub, HubEvent, Opens, Comes, Answers, Closes, Syncs, Sends, Leaves, Frees, after, May, connection_at}
 use Rattle.lf_hub.proofs.Slots.{put-same}
 use Rattle.lf_hub.specs.Progress.{Advances, CoreState, last_turn, last_closing}
@@ -14,12 +15,24 @@ use Rattle.lf_hub_serve.specs.Serving.{Service, Happens, Follow, Serves, Breaks,
 abbrev pub with_saved : {S : Type 0} → List ℕ → Service S → Service S
 with_saved before s = record s { saved = before ++ s.saved }
 
+-- bytes that all have room
+taken : (bytes : List ℕ) (n room : ℕ) → n ≡ min (length bytes) room → length bytes ≤ room → take n bytes ≡ bytes
+taken bytes n room e h = take_all n bytes (omega (arith, e, h))
+
+-- a line feed has room where there is any
+feed_length : (b : Bool) → length {A = ℕ} (cond b (10 ∷ []) []) ≤ 1
+feed_length true = omega arith
+feed_length false = omega arith
+
+pub feed_fits : (c : Connection) (bytes : List ℕ) (room : ℕ) → bytes ≡ last_feed c → 0 < room → length bytes ≤ room
+feed_fits c bytes room e some = omega (arith, ap (λ (b : List ℕ). length b) e, feed_length (nat_lt 0 (length c.begun)), some)
+
 module _ {S : Type 0} (takes : S → Turn → S → Type 0) where
   pub serves_same : (a b : Service S) → b ≡ a → Serves takes a b
   serves_same a b e = ([], e)
 
   pub serves_one : (a b : Service S) (e : HubEvent) → Happens takes a e b → Serves takes a b
-  serves_one a b e h = (e ∷ [], b, h, refl)
+  serves_one a b e h = (e ∷ [], (b, h, refl))
 
   follow_then : (es fs : List HubEvent) (a b c : Service S) → Follow takes a es b → Follow takes b fs c → Follow takes a (es ++ fs) c
   follow_then [] fs a b c f g = subst (λ (s : Service S). Follow takes s fs c) f g
@@ -175,6 +188,22 @@ module _ {S : Type 0} (takes : S → Turn → S → Type 0) where
         saved = refl;
       })
 
+  -- the same, where the hub takes as many bytes as there is room for
+  pub came_whole : (g h : Hub) (floor : S) (l m : List Call) (slot number n : ℕ) (bytes : List ℕ)
+      → slot < length g.slots → length bytes ≤ room_of (connection_at slot g.slots) → n ≡ min (length bytes) (room_of (connection_at slot g.slots))
+      → h ≡ after g (Comes slot (take n bytes)) → number ≡ number_in slot g → m ≡ l ++ Came number bytes ∷ [] → Serves takes (service g floor l) (service h floor m)
+  came_whole g h floor l m slot number n bytes below fits count e is p =
+      came g h floor l m slot number bytes (below, fits)
+      (e ∙ ap (λ (b : List ℕ). after g (Comes slot b)) (taken bytes n (room_of (connection_at slot g.slots)) count fits)) is p
+
+  pub ended_whole : (g h : Hub) (floor : S) (l m : List Call) (slot number n : ℕ) (bytes : List ℕ)
+      → slot < length g.slots → length bytes ≤ room_of (connection_at slot g.slots) → n ≡ min (length bytes) (room_of (connection_at slot g.slots))
+      → h ≡ after g (Comes slot (take n bytes)) → number ≡ number_in slot g → bytes ≡ last_feed (connection_at slot g.slots)
+      → m ≡ l ++ Ended number ∷ [] → Serves takes (service g floor l) (service h floor m)
+  ended_whole g h floor l m slot number n bytes below fits count e is feed p =
+      ended g h floor l m slot number bytes (below, fits)
+      (e ∙ ap (λ (b : List ℕ). after g (Comes slot b)) (taken bytes n (room_of (connection_at slot g.slots)) count fits)) is feed p
+
   pub sent : (g h : Hub) (floor : S) (l m : List Call) (slot number count : ℕ) (bytes : List ℕ)
       → May g (Sends slot count) → h ≡ after g (Sends slot count) → number ≡ number_in slot g → bytes ≡ (connection_at slot g.slots).ready
       → m ≡ l ++ Sent number (take count bytes) ∷ [] → Serves takes (service g floor l) (service h floor m)
@@ -220,3 +249,30 @@ module _ {S : Type 0} (takes : S → Turn → S → Type 0) where
   pub lost : (g h : Hub) (floor : S) (l m : List Call) (call : Call) → brings call ≡ true → h ≡ g → m ≡ l ++ call ∷ [] → Breaks takes (service g floor l) (service h floor m)
   lost g h floor l m call is e p =
       breaks_lost (service g floor l) (service h floor m) call is (ap (λ (x : Hub). service x floor m) e ∙ ap (λ (x : List Call). service g floor x) p)
+
+  -- ---- with what was saved before
+
+  abbrev pub saving : Hub → S → List Call → List ℕ → Service S
+  saving hub floor calls saved = record { hub = hub; floor = floor; calls = calls; saved = saved }
+
+  pub serves_on : (before saved : List ℕ) (g h : Hub) (floor next : S) (l m : List Call)
+      → Serves takes (service g floor l) (saving h next m saved) → Serves takes (saving g floor l before) (saving h next m (before ++ saved))
+  serves_on before saved g h floor next l m f =
+      subst (λ (s : List ℕ). Serves takes (saving g floor l s) (saving h next m (before ++ saved))) (append-nil before)
+      (serves_later before (service g floor l) (saving h next m saved) f)
+
+  pub serves_with : (before : List ℕ) (g h : Hub) (floor next : S) (l m : List Call)
+      → Serves takes (service g floor l) (service h next m) → Serves takes (saving g floor l before) (saving h next m before)
+  serves_with before g h floor next l m f =
+      subst (λ (s : List ℕ). Serves takes (saving g floor l before) (saving h next m s)) (append-nil before) (serves_on before [] g h floor next l m f)
+
+  pub breaks_on : (before saved : List ℕ) (g h : Hub) (floor next : S) (l m : List Call)
+      → Breaks takes (service g floor l) (saving h next m saved) → Breaks takes (saving g floor l before) (saving h next m (before ++ saved))
+  breaks_on before saved g h floor next l m f =
+      subst (λ (s : List ℕ). Breaks takes (saving g floor l s) (saving h next m (before ++ saved))) (append-nil before)
+      (breaks_later before (service g floor l) (saving h next m saved) f)
+
+  pub breaks_with : (before : List ℕ) (g h : Hub) (floor next : S) (l m : List Call)
+      → Breaks takes (service g floor l) (service h next m) → Breaks takes (saving g floor l before) (saving h next m before)
+  breaks_with before g h floor next l m f =
+      subst (λ (s : List ℕ). Breaks takes (saving g floor l before) (saving h next m s)) (append-nil before) (breaks_on before [] g h floor next l m f)

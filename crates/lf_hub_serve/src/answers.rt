@@ -38,6 +38,17 @@ fn now(clock: &impl Clock) -> Option<Instant> {
     Instant::now(clock).ok()
 }
 
+/// Returns whether a turn was taken.
+fn was_taken(progress: Progress) -> bool {
+    match progress {
+        Progress::Idle => false,
+        Progress::Passed { .. } => true,
+        Progress::Answered { .. } => true,
+        Progress::Closed { .. } => true,
+        Progress::Freed { .. } => true,
+    }
+}
+
 /// Takes one turn. Returns whether somebody was waiting.
 fn take_turn<F: Floor, W: Wire>(server: &mut Server<F, W>) -> Result<bool, AllocError>
     ensures ok { OnOk result (Serves (IsAnswered F.answers F.shows)
@@ -45,13 +56,8 @@ fn take_turn<F: Floor, W: Wire>(server: &mut Server<F, W>) -> Result<bool, Alloc
     ensures err { OnErr result (Breaks (IsAnswered F.answers F.shows)
         (service_of W.calls server.old []) (service_of W.calls server.new [])) }
 {
-    match server.core.answer(&mut server.floor, true)? {
-        Progress::Idle => Ok(false),
-        Progress::Passed { .. } => Ok(true),
-        Progress::Answered { .. } => Ok(true),
-        Progress::Closed { .. } => Ok(true),
-        Progress::Freed { .. } => Ok(true),
-    }
+    let progress = server.core.answer(&mut server.floor, true)?;
+    Ok(was_taken(progress))
 }
 
 /// Answers the lines that wait, until nobody waits or the time of a round is over. Returns whether

@@ -1,10 +1,20 @@
 //! The operator.
 
-ghost use Rattle.std.specs.Prelude.{◌≡◌, [], true};
+ghost use Rattle.std.specs.Prelude.{◌≡◌, [], codes, true};
 ghost use Rattle.lf_hub_serve.specs.Servers.{IsStopped, service_of};
 
 use crate::server::Server;
 use lf_hub_wire::Wire;
+
+/// Returns whether a line of the operator is `stop`.
+fn is_stop(line: &[u8]) -> bool
+    ensures { result ≡ true → line.now ≡ codes "stop" }
+{
+    match line {
+        b"stop" => true,
+        _ => false,
+    }
+}
 
 /// Takes the operator's next line and replies to it. Returns whether he wants the hub to stop.
 pub(crate) fn take_order<F, W: Wire>(server: &mut Server<F, W>, line: &mut Vec<u8>) -> bool
@@ -14,7 +24,7 @@ pub(crate) fn take_order<F, W: Wire>(server: &mut Server<F, W>, line: &mut Vec<u
     if !server.wire.take_order(line) {
         return false;
     }
-    if line.as_slice() == b"stop".as_slice() {
+    if is_stop(line.as_slice()) {
         server.wire.answer_order(b"ok\n");
         return true;
     }

@@ -1,7 +1,8 @@
 //! Records into the journal.
 
-ghost use Rattle.std.specs.Prelude.{◌≡◌, ◌<◌, ◌++◌, [], List, ℕ, IsTrue, OnErr, OnOk, length, slice_index, true};
+ghost use Rattle.std.specs.Prelude.{◌≡◌, ◌<◌, ◌^◌, ◌++◌, [], List, ℕ, IfOk, IsTrue, OnErr, OnOk, drop, length, slice_index, true};
 ghost use Rattle.lf_hub_clients.specs.Turns.{IsAnswered};
+ghost use Rattle.lf_journal_text.specs.Batches.{IsBatch};
 ghost use Rattle.lf_journal.specs.Journals.{IsSettled};
 ghost use Rattle.lf_hub_serve.specs.Saving.{KeepsRecords, records_of_file};
 ghost use Rattle.lf_hub_serve.specs.Serving.{Serves};
@@ -13,7 +14,7 @@ use lf_hub_wire::Wire;
 use lf_journal::Journal;
 use lf_journal_text::batch_of;
 use sqlite_disk::Disk;
-use std::alloc::Global;
+use std::alloc::{AllocError, Global};
 use std::time::{Clock, SystemTime};
 
 /// The latest time of a batch, in milliseconds since 1970.
@@ -53,6 +54,19 @@ fn has_no_zero(bytes: &[u8]) -> bool
     true
 }
 
+/// Returns the batch of these records, which was made at this time in milliseconds since 1970.
+fn make_batch(alloc: Global, time: u64, records: &[u8]) -> Result<Vec<u8>, AllocError>
+    requires time { time < 10 ^ 13 }
+    requires some { 0 < length records.now }
+    requires small { length records.now < 100000 }
+    requires nonzero { (i : ℕ) → i < length records.now → 0 < slice_index records.now i }
+    ensures batch { IfOk result (λ batch. IsBatch batch.items) }
+    ensures records { IfOk result (λ batch. drop 38 batch.items ≡ records.now) }
+{
+    let batch = batch_of(alloc, time, records)?;
+    Ok(batch)
+}
+
 /// Adds records to the journal as one batch. They are on the disk at `Ok`.
 ///
 /// `Err(UnfitRecords)` if they are too long for a batch, or one of them has a zero byte; then nothing
@@ -78,10 +92,16 @@ fn put_records<D: Disk>(
     ensures usable { OnOk result (IsTrue (D.Disk.is_usable journal.new.disk)) }
     ensures clean { IsTrue (D.Disk.is_clean journal.new.disk) → IsTrue (D.Disk.is_clean journal.old.disk) }
 {
-    if records.len() > MOST || journal.end > SEGMENT || !has_no_zero(records) {
+    if records.len() > MOST {
         return Err(Failure::UnfitRecords);
     }
-    let batch = batch_of(alloc, time, records)?;
+    if journal.end > SEGMENT {
+        return Err(Failure::UnfitRecords);
+    }
+    if !has_no_zero(records) {
+        return Err(Failure::UnfitRecords);
+    }
+    let batch = make_batch(alloc, time, records)?;
     if batch.len() > SEGMENT {
         return Err(Failure::UnfitRecords);
     }

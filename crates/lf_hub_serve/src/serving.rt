@@ -26,18 +26,20 @@ const PAUSE: u32 = 1000;
 /// The bytes that are read at once.
 const PIECE: usize = 16_384;
 
-/// Accepts clients, reads what they have sent, and answers their lines. Returns whether there was
-/// anything to do.
+/// Waits until there is something to do, at most this many milliseconds. Accepts clients, reads what
+/// they have sent, and answers their lines. Returns whether there was anything to do.
 fn gather<F: Floor, W: Wire>(
     clock: &impl Clock,
     server: &mut Server<F, W>,
     buffer: &mut [u8],
+    limit: u32,
 ) -> Result<bool, AllocError>
     ensures ok { OnOk result (Serves (IsAnswered F.answers F.shows)
         (service_of W.calls server.old []) (service_of W.calls server.new [])) }
     ensures err { OnErr result (Breaks (IsAnswered F.answers F.shows)
         (service_of W.calls server.old []) (service_of W.calls server.new [])) }
 {
+    server.wire.wait(limit);
     let has_arrived = accept_clients(server)?;
     let has_come = read_clients(server, buffer)?;
     let was_answered = answer_lines(clock, server)?;
@@ -70,8 +72,7 @@ fn serve_round<F: Floor, W: Wire, D: Disk>(
     ensures usable { OnOk result (IsTrue (D.Disk.is_usable journal.new.disk)) }
     ensures clean { IsTrue (D.Disk.is_clean journal.new.disk) → IsTrue (D.Disk.is_clean journal.old.disk) }
 {
-    server.wire.wait(limit);
-    let is_busy = gather(clock, server, buffer)?;
+    let is_busy = gather(clock, server, buffer, limit)?;
     save(alloc, clock, server, journal, slots)?;
     send_replies(server)?;
     Ok(is_busy)

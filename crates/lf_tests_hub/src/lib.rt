@@ -1,6 +1,7 @@
 //! Tests of the core of a hub: what no clause says of it.
 //!
-//! The tests cover `lf_hub_clients`, `lf_hub_turns`, `lf_hub` and `lf_hub_serve`. Their floor is a counter,
+//! The tests cover `lf_hub_clients`, `lf_hub_turns`, `lf_hub`, `lf_hub_wire` and
+//! `lf_hub_serve`. Their floor is a counter,
 //! and their wire is a script.
 //!
 //! Modules, in reading order:
@@ -12,6 +13,7 @@
 //! - `sessions`: the sessions of clients that leave
 //! - `wires`: a wire in memory that follows a script, for other modules
 //! - `served`: a hub that is served over such a wire
+//! - `sockets`: the wire of a process, over unix sockets
 #![tactic(auto)]
 
 #[cfg(test)]
@@ -22,6 +24,8 @@ mod counters;
 mod served;
 #[cfg(test)]
 mod sessions;
+#[cfg(test)]
+mod sockets;
 #[cfg(test)]
 mod steps;
 #[cfg(test)]
