@@ -141,25 +141,27 @@ fn tells_of_no_lost_change(rt: HostRuntime) -> Result<(), Fail> {
         Step::Says { number: 0, bytes: b"add\n" },
     ];
     let mut told = 0;
-    for calls in 0..16 {
-        let mut memory = Memory::new(alloc);
-        let opened = open(alloc, &mut memory)?;
-        let mut journal = Journal {
-            disk: Fuse::new(memory, calls),
-            end: opened.text.len(),
-            len: opened.len,
-        };
-        let mut server = Server {
-            core: Core::new(alloc, 1)?,
-            floor: Counter { count: 0 },
-            wire: Script::new(alloc, &steps),
-        };
-        let ending = serve_hub(alloc, &rt, &mut server, &mut journal);
-        assert!(rt; matches!(ending, Ending::Stopped | Ending::Failed(Failure::Disk(_))));
-        assert!(rt; server.wire.peers.len() == 1);
-        told = server.wire.peers[0].output.len();
-        journal.disk.crash();
-        let opened = open(alloc, &mut journal.disk)?;
+    for calls in 0..32 {
+        let mut disk = Fuse::new(Memory::new(alloc), calls);
+        if let Ok(opened) = open(alloc, &mut disk) {
+            let mut journal = Journal {
+                disk,
+                end: opened.text.len(),
+                len: opened.len,
+            };
+            let mut server = Server {
+                core: Core::new(alloc, 1)?,
+                floor: Counter { count: 0 },
+                wire: Script::new(alloc, &steps),
+            };
+            let ending = serve_hub(alloc, &rt, &mut server, &mut journal);
+            assert!(rt; matches!(ending, Ending::Stopped | Ending::Failed(Failure::Disk(_))));
+            assert!(rt; server.wire.peers.len() == 1);
+            told = server.wire.peers[0].output.len();
+            disk = journal.disk;
+        }
+        disk.crash();
+        let opened = open(alloc, &mut disk)?;
         let mut kept = 0usize;
         for at in 0..opened.text.len() {
             if opened.text.as_slice()[at..].starts_with(b"0\nadd\nok\n") {
