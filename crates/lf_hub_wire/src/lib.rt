@@ -22,10 +22,10 @@
 //! - `streams`: connected sockets
 //! - `sockets`: the wire of a process
 //!
-//! From `crates/lf_hub_serve/src/server.rt`:
+//! From `crates/lf_hub_serve/src/arrivals.rt`:
 //!
 //! ```
-//! match self.wire.read(number, &mut buffer[..room]) {
+//! match server.wire.read(number, buffer) {
 //! ```
 #![tactic(auto)]
 

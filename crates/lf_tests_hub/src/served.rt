@@ -14,11 +14,26 @@ use std::test::Fail;
 fn serves_two_clients(rt: HostRuntime) -> Result<(), Fail> {
     let alloc = rt.alloc();
     let steps = [
-        Step::Connects { team: 0, access: Access::Changes },
-        Step::Connects { team: 1, access: Access::Changes },
-        Step::Says { number: 0, bytes: b"add\nwhat\nad" },
-        Step::Says { number: 1, bytes: b"add\n" },
-        Step::Says { number: 0, bytes: b"d\n" },
+        Step::Connects {
+            team: 0,
+            access: Access::Changes,
+        },
+        Step::Connects {
+            team: 1,
+            access: Access::Changes,
+        },
+        Step::Says {
+            number: 0,
+            bytes: b"add\nwhat\nad",
+        },
+        Step::Says {
+            number: 1,
+            bytes: b"add\n",
+        },
+        Step::Says {
+            number: 0,
+            bytes: b"d\n",
+        },
         Step::Orders { line: b"state" },
     ];
     let mut disk = Memory::new(alloc);
@@ -37,9 +52,15 @@ fn serves_two_clients(rt: HostRuntime) -> Result<(), Fail> {
     assert!(rt; matches!(ending, Ending::Stopped));
     assert!(rt; server.floor.count == 3);
     assert!(rt; server.wire.peers.len() == 2);
-    assert_eq!(rt; server.wire.peers[0].output.as_slice(), b"ok\nno 1 BadRequest\nok\n".as_slice());
+    assert_eq!(rt;
+        server.wire.peers[0].output.as_slice(),
+        b"ok\nno 1 BadRequest\nok\n".as_slice()
+    );
     assert_eq!(rt; server.wire.peers[1].output.as_slice(), b"ok\n".as_slice());
-    assert_eq!(rt; server.wire.told.as_slice(), b"no 1 BadRequest\nok\n".as_slice());
+    assert_eq!(rt;
+        server.wire.told.as_slice(),
+        b"no 1 BadRequest\nok\n".as_slice()
+    );
     let text = journal.disk.bytes();
     assert!(rt; contains(text, b"0\nadd\nok\n"));
     assert!(rt; contains(text, b"1\nadd\nok\n"));
@@ -62,11 +83,23 @@ fn contains(bytes: &[u8], others: &[u8]) -> bool {
 fn serves_to_the_end_of_input(rt: HostRuntime) -> Result<(), Fail> {
     let alloc = rt.alloc();
     let steps = [
-        Step::Connects { team: 0, access: Access::Changes },
-        Step::Says { number: 0, bytes: b"add\nadd" },
+        Step::Connects {
+            team: 0,
+            access: Access::Changes,
+        },
+        Step::Says {
+            number: 0,
+            bytes: b"add\nadd",
+        },
         Step::Ends { number: 0 },
-        Step::Connects { team: 0, access: Access::Changes },
-        Step::Says { number: 1, bytes: b"add\n" },
+        Step::Connects {
+            team: 0,
+            access: Access::Changes,
+        },
+        Step::Says {
+            number: 1,
+            bytes: b"add\n",
+        },
         Step::Ends { number: 1 },
     ];
     let mut disk = Memory::new(alloc);
@@ -85,7 +118,10 @@ fn serves_to_the_end_of_input(rt: HostRuntime) -> Result<(), Fail> {
     assert!(rt; matches!(ending, Ending::Stopped));
     assert!(rt; server.floor.count == 3);
     assert!(rt; server.wire.peers.len() == 2);
-    assert_eq!(rt; server.wire.peers[0].output.as_slice(), b"ok\nok\n".as_slice());
+    assert_eq!(rt;
+        server.wire.peers[0].output.as_slice(),
+        b"ok\nok\n".as_slice()
+    );
     assert!(rt; server.wire.peers[0].is_closed);
     assert_eq!(rt; server.wire.peers[1].output.as_slice(), b"ok\n".as_slice());
     assert!(rt; server.wire.peers[1].is_closed);
@@ -98,14 +134,32 @@ fn serves_to_the_end_of_input(rt: HostRuntime) -> Result<(), Fail> {
 fn clients_fail_alone(rt: HostRuntime) -> Result<(), Fail> {
     let alloc = rt.alloc();
     let steps = [
-        Step::Connects { team: 0, access: Access::Changes },
-        Step::Connects { team: 0, access: Access::Changes },
-        Step::Connects { team: 0, access: Access::Changes },
+        Step::Connects {
+            team: 0,
+            access: Access::Changes,
+        },
+        Step::Connects {
+            team: 0,
+            access: Access::Changes,
+        },
+        Step::Connects {
+            team: 0,
+            access: Access::Changes,
+        },
         Step::Stalls { number: 1 },
-        Step::Says { number: 1, bytes: b"add\n" },
-        Step::Says { number: 0, bytes: b"open\nad" },
+        Step::Says {
+            number: 1,
+            bytes: b"add\n",
+        },
+        Step::Says {
+            number: 0,
+            bytes: b"open\nad",
+        },
         Step::Breaks { number: 0 },
-        Step::Says { number: 2, bytes: b"add\nbye\nadd\n" },
+        Step::Says {
+            number: 2,
+            bytes: b"add\nbye\nadd\n",
+        },
     ];
     let mut disk = Memory::new(alloc);
     let opened = open(alloc, &mut disk)?;
@@ -125,7 +179,10 @@ fn clients_fail_alone(rt: HostRuntime) -> Result<(), Fail> {
     assert!(rt; server.wire.peers.len() == 3);
     assert!(rt; server.wire.peers[0].is_closed);
     assert!(rt; !server.wire.peers[1].is_closed);
-    assert_eq!(rt; server.wire.peers[2].output.as_slice(), b"ok\nok\n".as_slice());
+    assert_eq!(rt;
+        server.wire.peers[2].output.as_slice(),
+        b"ok\nok\n".as_slice()
+    );
     assert!(rt; server.wire.peers[2].is_closed);
     assert!(rt; contains(journal.disk.bytes(), b"0\nclose\nok\n"));
     Ok(())
@@ -136,9 +193,18 @@ fn clients_fail_alone(rt: HostRuntime) -> Result<(), Fail> {
 fn tells_of_no_lost_change(rt: HostRuntime) -> Result<(), Fail> {
     let alloc = rt.alloc();
     let steps = [
-        Step::Connects { team: 0, access: Access::Changes },
-        Step::Says { number: 0, bytes: b"add\n" },
-        Step::Says { number: 0, bytes: b"add\n" },
+        Step::Connects {
+            team: 0,
+            access: Access::Changes,
+        },
+        Step::Says {
+            number: 0,
+            bytes: b"add\n",
+        },
+        Step::Says {
+            number: 0,
+            bytes: b"add\n",
+        },
     ];
     let mut told = 0;
     for calls in 0..32 {

@@ -22,8 +22,14 @@ fn clients_connect_to_sockets(rt: HostRuntime) -> Result<(), Fail> {
         group: None,
     }];
     let mut sockets = Sockets::open(&rt, FOLDER, &doors, 2)?;
-    assert_eq!(rt; fs::metadata(&rt, "lf_tests_hub/A.sock")?.mode() & 0o777, 0o660);
-    assert_eq!(rt; fs::metadata(&rt, "lf_tests_hub/operator.sock")?.mode() & 0o777, 0o600);
+    assert_eq!(rt;
+        fs::metadata(&rt, "lf_tests_hub/A.sock")?.mode() & 0o777,
+        0o660
+    );
+    assert_eq!(rt;
+        fs::metadata(&rt, "lf_tests_hub/operator.sock")?.mode() & 0o777,
+        0o600
+    );
     assert!(rt; sockets.accept().is_none());
     let mut client = UnixStream::connect(&rt, "lf_tests_hub/A.sock")?;
     let viewer = UnixStream::connect(&rt, "lf_tests_hub/A.query.sock")?;

@@ -4,8 +4,8 @@ ghost use Rattle.lf_hub_wire.specs.Results.{CountsRead, CountsWritten};
 
 use lf_hub_clients::Access;
 use lf_hub_wire::{
-    ACCEPTED, Arrival, CAME, CLOSED, ENDED, Incoming, NUMBERED, ORDERED, Outgoing, Record, SENT, TOLD,
-    Wire, code_of,
+    ACCEPTED, Arrival, CAME, CLOSED, ENDED, Incoming, NUMBERED, ORDERED, Outgoing, Record, SENT,
+    TOLD, Wire, code_of,
 };
 use std::alloc::{AllocError, Global};
 
