@@ -7,21 +7,28 @@ ghost use Rattle.lf_hub_wire.specs.Calls.{Call, call_of, code_of};
 use lf_hub_clients::Access;
 use std::marker::{Model, PhantomData};
 
-/// The kinds of calls in a note.
+/// The kind of a note: a client connects to the socket of a team.
 pub const ACCEPTED: u64 = 0;
 
+/// The kind of a note: a connection gets its number.
 pub const NUMBERED: u64 = 1;
 
+/// The kind of a note: bytes come from a client.
 pub const CAME: u64 = 2;
 
+/// The kind of a note: a client sends no more.
 pub const ENDED: u64 = 3;
 
+/// The kind of a note: bytes are sent to a client.
 pub const SENT: u64 = 4;
 
+/// The kind of a note: a connection is closed.
 pub const CLOSED: u64 = 5;
 
+/// The kind of a note: a line comes from the operator.
 pub const ORDERED: u64 = 6;
 
+/// The kind of a note: the operator is sent a reply.
 pub const TOLD: u64 = 7;
 
 /// Returns the number of an access in a note.
