@@ -26,6 +26,11 @@ const PAUSE: u32 = 1000;
 /// The bytes that are read at once.
 const PIECE: usize = 16_384;
 
+/// Returns whether one of these holds.
+fn is_any(first: bool, second: bool, third: bool) -> bool {
+    first || second || third
+}
+
 /// Waits until there is something to do, at most this many milliseconds. Accepts clients, reads what
 /// they have sent, and answers their lines. Returns whether there was anything to do.
 fn gather<F: Floor, W: Wire>(
@@ -43,7 +48,7 @@ fn gather<F: Floor, W: Wire>(
     let has_arrived = accept_clients(server)?;
     let has_come = read_clients(server, buffer)?;
     let was_answered = answer_lines(clock, server)?;
-    Ok(has_arrived || has_come || was_answered)
+    Ok(is_any(has_arrived, has_come, was_answered))
 }
 
 /// Serves one round. Returns whether there was anything to do.
