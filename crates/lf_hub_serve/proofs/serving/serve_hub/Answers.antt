@@ -100,3 +100,6 @@ returns-in_default-clause-served g c =
     ([], breaks_whole takes start start (serves_same takes start start refl),
     λ clean f left. keeps_nil (records_of_file (g.D.Disk.seen journal.disk)) server.core.hub.records f
         (settled_keeps g.D.Disk.seen g.D.Disk.may_leave journal.disk journal.end journal.len server.core.hub.records f (c.requires.settled clean) left))
+
+pub returns-then-take_order-clause-stopped : goal.returns-then-take_order-clause-stopped
+returns-then-take_order-clause-stopped g c is = c.take_order.ensures.stopped c.if-take_order.true
