@@ -10,12 +10,12 @@ use Rattle.lf_state_text.specs.declared.fault.StateFaultNumber.TheVariants as st
 use Rattle.lf_task_faults.specs.declared.faults.TaskExit.{TaskExit}
 use Rattle.lf_task_faults.specs.declared.faults.Fault.{Fault}
 use Rattle.lf_task_faults.specs.declared.faults.Fault.TheVariants.{Refused, File, RefusedState, NoTeam, ReadFault, WriteFault, TooManyLines, OutOfMemory}
-use Rattle.lf_task_faults.specs.declared.faults.Fault.TheVariants.{Output, Bind, Accept, NotWritten, SetupOutOfMemory, OutputOutOfMemory}
+use Rattle.lf_task_faults.specs.declared.faults.Fault.TheVariants.{Output, Bind, Accept, NotWritten, SetupOutOfMemory, OutputOutOfMemory, TeamDiffers, SliceDiffers}
 use Rattle.lf_task_faults.specs.declared.faults.TextFile.{TextFile}
 use Rattle.lf_task_faults.specs.declared.faults.TextKind.{TextKind}
 use Rattle.lf_task_faults.specs.declared.faults.TextKind.TheVariants.{Lef, Def, State}
 use Rattle.lf_task_faults.specs.declared.faults.OutputKind.{OutputKind}
-use Rattle.lf_task_faults.specs.declared.faults.OutputKind.TheVariants.{Export, Save, Lines, Working}
+use Rattle.lf_task_faults.specs.declared.faults.OutputKind.TheVariants.{Export, Save, Lines, Working, Slice}
 use Rattle.lf_task_faults.specs.declared.faults.BindFailure.{BindFailure}
 use Rattle.lf_task_faults.specs.declared.faults.BindFailure.TheVariants as unbound
 use Rattle.lf_task_faults.specs.declared.hints.Compression.{Compression}
@@ -95,6 +95,8 @@ fault_text (Refused file refusal) = refusal_text refusal
 fault_text (File file why) = codes "File"
 fault_text (RefusedState path refusal) = state_refusal_text refusal
 fault_text (NoTeam name) = codes "NoTeam"
+fault_text (TeamDiffers path team) = codes "TeamDiffers"
+fault_text SliceDiffers = codes "SliceDiffers"
 fault_text ReadFault = codes "ReadFault"
 fault_text WriteFault = codes "WriteFault"
 fault_text TooManyLines = codes "TooManyLines"
@@ -198,6 +200,7 @@ output_kind_words Export = codes "export file "
 output_kind_words Save = codes "state file "
 output_kind_words Lines = codes "lines file "
 output_kind_words Working = codes "working export file "
+output_kind_words Slice = codes "slice file "
 
 -- The kind of a written file, and its path.
 abbrev pub output_words : OutputKind → List ℕ → List ℕ
@@ -206,6 +209,10 @@ output_words kind path = output_kind_words kind ++ shown_bytes path
 -- The name of a team.
 abbrev pub team_words : List ℕ → List ℕ
 team_words name = codes "team " ++ shown_bytes name
+
+-- A state file, and a team of it.
+abbrev pub state_team_words : List ℕ → List ℕ → List ℕ
+state_team_words path team = text_kind_words State ++ shown_bytes path ++ codes ": team " ++ shown_bytes team
 
 -- The line of a refused state text.
 abbrev pub state_line : List ℕ → StateRefusal → List ℕ
@@ -259,6 +266,8 @@ abbrev pub subject_words : Fault → List ℕ
 subject_words (File file why) = file_words file
 subject_words (NotWritten kind path why) = output_words kind path.now
 subject_words (NoTeam name) = team_words name.now
+subject_words (TeamDiffers path team) = state_team_words path.now team.items
+subject_words SliceDiffers = codes "the slice"
 subject_words (Bind port why) = port_text port
 subject_words _ = []
 
@@ -267,6 +276,8 @@ abbrev pub complaint_words : Fault → List ℕ
 complaint_words (File file why) = codes " cannot be read"
 complaint_words (NotWritten kind path why) = codes " cannot be written"
 complaint_words (NoTeam name) = codes " is not in the design"
+complaint_words (TeamDiffers path team) = codes " differs from that of an earlier state file, and both have changed it"
+complaint_words SliceDiffers = codes " has another frame or other cells of the team than the design"
 complaint_words (Bind port why) = codes " is not available"
 complaint_words _ = []
 
@@ -312,6 +323,8 @@ second_line (File file why) = complaint_line (File file why)
 second_line (RefusedState path refusal) = state_line path.now refusal
 second_line (NotWritten kind path why) = complaint_line (NotWritten kind path why)
 second_line (NoTeam name) = complaint_line (NoTeam name)
+second_line (TeamDiffers path team) = complaint_line (TeamDiffers path team)
+second_line SliceDiffers = complaint_line SliceDiffers
 second_line (Bind port why) = complaint_line (Bind port why)
 second_line _ = []
 
@@ -326,6 +339,8 @@ abbrev pub status_of : Fault → ℕ
 status_of (Refused file refusal) = 1
 status_of (RefusedState path refusal) = 1
 status_of (NoTeam name) = 1
+status_of (TeamDiffers path team) = 1
+status_of SliceDiffers = 1
 status_of SetupOutOfMemory = 1
 status_of OutputOutOfMemory = 1
 status_of _ = 3
@@ -363,6 +378,8 @@ IsEarly (Refused file refusal) = Unit {0}
 IsEarly (File file why) = Unit {0}
 IsEarly (RefusedState path refusal) = Unit {0}
 IsEarly (NoTeam name) = Unit {0}
+IsEarly (TeamDiffers path team) = Unit {0}
+IsEarly SliceDiffers = Unit {0}
 IsEarly SetupOutOfMemory = Unit {0}
 IsEarly _ = ⊥
 
@@ -389,6 +406,8 @@ IsOfNone (Refused file refusal) = Unit {0}
 IsOfNone (File file why) = Unit {0}
 IsOfNone (RefusedState path refusal) = Unit {0}
 IsOfNone (NoTeam name) = Unit {0}
+IsOfNone (TeamDiffers path team) = Unit {0}
+IsOfNone SliceDiffers = Unit {0}
 IsOfNone TooManyLines = Unit {0}
 IsOfNone OutOfMemory = Unit {0}
 IsOfNone SetupOutOfMemory = Unit {0}

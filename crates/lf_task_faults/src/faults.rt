@@ -45,6 +45,8 @@ pub enum OutputKind {
     Lines,
     /// The text with the working places.
     Working,
+    /// The slice of a team.
+    Slice,
 }
 
 /// Why the program cannot listen on a port, if the system reports it.
@@ -73,6 +75,11 @@ pub enum Fault<'a> {
     RefusedState(&'a str, StateRefusal),
     /// No team of the design has this name.
     NoTeam(&'a str),
+    /// The state file of this path has another state of the team with this name than an earlier
+    /// state file, and both have changed it.
+    TeamDiffers(&'a str, Vec<u8>),
+    /// The text cut for a slice is not one of the design and the team.
+    SliceDiffers,
     /// The reader of lines failed, or the limit on reads was reached.
     ReadFault,
     /// A reply could not be written.
@@ -218,6 +225,8 @@ fn put_fault<W: Sink>(sink: &mut W, fault: &Fault<'_>) -> Result<(), DeviceFault
         Fault::File(_, _) => send(sink, b"File"),
         Fault::RefusedState(_, refusal) => put_state_refusal(sink, refusal),
         Fault::NoTeam(_) => send(sink, b"NoTeam"),
+        Fault::TeamDiffers(_, _) => send(sink, b"TeamDiffers"),
+        Fault::SliceDiffers => send(sink, b"SliceDiffers"),
         Fault::ReadFault => send(sink, b"ReadFault"),
         Fault::WriteFault => send(sink, b"WriteFault"),
         Fault::TooManyLines => send(sink, b"TooManyLines"),
@@ -242,8 +251,8 @@ pub fn write_fault<W: Sink>(sink: &mut W, fault: &Fault<'_>) -> Result<(), Devic
     send(sink, b"\n")
 }
 
-/// Returns the exit status of a fault: 1 for `Refused`, `RefusedState`, `NoTeam`,
-/// `SetupOutOfMemory` and `OutputOutOfMemory`, otherwise 3.
+/// Returns the exit status of a fault: 1 for `Refused`, `RefusedState`, `NoTeam`, `TeamDiffers`,
+/// `SliceDiffers`, `SetupOutOfMemory` and `OutputOutOfMemory`, otherwise 3.
 pub fn status_of(fault: &Fault<'_>) -> u8
     ensures { result ≡ status_of fault.now }
 {
@@ -251,6 +260,8 @@ pub fn status_of(fault: &Fault<'_>) -> u8
         Fault::Refused { .. } => 1,
         Fault::RefusedState(_, _) => 1,
         Fault::NoTeam(_) => 1,
+        Fault::TeamDiffers(_, _) => 1,
+        Fault::SliceDiffers => 1,
         Fault::SetupOutOfMemory => 1,
         Fault::OutputOutOfMemory => 1,
         _ => 3,

@@ -10,7 +10,8 @@
 //! Functions that are a whole task return the exit status: 0, or 4 if the design is not fully
 //! legal. Otherwise they return the fault, which is not printed here.
 //!
-//! Used by `lf_task_wires`, `lf_task_serve`, `lf_task_repair`, `lf_task_improve` and `lf_app`.
+//! Used by `lf_task_wires`, `lf_task_run`, `lf_task_serve`, `lf_task_repair`, `lf_task_improve`,
+//! `lf_task_gather`, `lf_task_slice` and `lf_app`.
 //!
 //! Modules, in reading order:
 //!
@@ -61,4 +62,5 @@ pub use inputs::{DesignInput, open_floor, start_floor};
 pub use measured::{MeasuredFloor, RepairLimits, open_measured};
 pub use output_file::{check_output_path, put_file};
 pub use outputs::{OutputPaths, check_outputs, write_outputs};
+pub use restore::{rows_of_file, start_unplaced};
 pub use save::save_to;
