@@ -24,7 +24,7 @@ fn reserve_move_undo(
     requires own { last.now.own < length places.old }
     requires room { KeepsCapacities counts.old placement.old.held.rooms }
     requires bounds { BoundsAt placement.old team places.old counts.old }
-    ensures places { OnOk result (places.new ≡ slice_set places.old last.now.own last.now.old) }
+    ensures places { OnOk result (places.new ≡ slice_set places.old last.now.own last.now.place) }
     ensures room { OnOk result (KeepsCapacities counts.new placement.new.held.rooms) }
     ensures bounds { OnOk result (BoundsAt placement.new team places.new counts.new) }
     ensures others { (at : Places) → (other : ℕ) → other ≢ team → BoundsAt placement.old other at counts.old

@@ -11,7 +11,7 @@ loop-team-init c =
     let f = c.args.sized.now.frame.now in
     let cells = c.args.sized.now.cells.now in
     let m = c.args.occupancy.now in
-    let tally = c.in_ok-counts.tally in
+    let tally = c.in_ok-counts.counts in
     let are = c.in_ok-counts.ensures {u = tt} in
     record {
       half = record {

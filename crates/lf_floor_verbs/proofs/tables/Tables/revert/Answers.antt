@@ -12,20 +12,20 @@ use Rattle.lf_floor_verbs.proofs.tables.Tables.revert.Goals as goal
 
 pub returns-in_err-moves-clause-err : goal.returns-in_err-moves-clause-err
 returns-in_err-moves-clause-err g c = λ l.
-    let s = team_in c.args.around.now c.args.self.now in
-    on_err_from c.from_residual.result (reverted_short (context_in l c.args.around.now c.args.self.now) c.args.session s s refl)
+    let s = team_in c.args.context.now c.args.self.now in
+    on_err_from c.from_residual.result (reverted_short (context_in l c.args.context.now c.args.self.now) c.args.session s s refl)
 
 pub returns-in_err-reserve_entry-clause-err : goal.returns-in_err-reserve_entry-clause-err
 returns-in_err-reserve_entry-clause-err g c = λ l.
     let old = c.args.self.now in
     let new = c.reserve_entry.new.self in
     on_err_from c.from_residual-in_err-reserve_entry.result
-    (reverted_short (context_in l c.args.around.now old) c.args.session (team_in c.args.around.now old) (team_in c.args.around.now new)
-    (grown_team c.args.around.now.number old new c.reserve_entry.ensures.grown))
+    (reverted_short (context_in l c.args.context.now old) c.args.session (team_in c.args.context.now old) (team_in c.args.context.now new)
+    (grown_team c.args.context.now.number old new c.reserve_entry.ensures.grown))
 
 pub change_places-requires-clause-fits : goal.change_places-requires-clause-fits
 change_places-requires-clause-fits g c =
-    let number = c.args.around.now.number in
+    let number = c.args.context.now.number in
     let p = c.args.self.now.placement in
     let cells = cells_of p.cells number in
     let moves = c.in_ok-moves.moves in
@@ -36,14 +36,14 @@ change_places-requires-clause-fits g c =
 
 pub returns-clause-ok : goal.returns-clause-ok
 returns-clause-ok g c = λ l.
-    let number = c.args.around.now.number in
+    let number = c.args.context.now.number in
     let old = c.args.self.now in
     let mid = c.reserve_entry.new.self in
     let cells = table_cells number old in
     let moves = c.in_ok-moves.moves in
     let back : moves_applied moves cells ≡ map back_to_committed cells =
     subst (λ (cs : Cells). moves_applied moves (cells_of cs number) ≡ map back_to_committed (cells_of cs number)) c.cells.ensures (c.in_ok-moves.ensures {u = tt}) in
-    reverted_reaches (context_in l c.args.around.now old) number c.args.session c.change_places.result old c.change_places.new.self (moves_applied moves cells)
+    reverted_reaches (context_in l c.args.context.now old) number c.args.session c.change_places.result old c.change_places.new.self (moves_applied moves cells)
     c.requires.served.limit back
     (c.change_places.ensures.team
     ∙ ap (λ (p : Placing). team_after_change number c.args.session (cells_of p.cells number) (moves_applied moves (cells_of p.cells number)) mid) c.reserve_entry.ensures.placement
@@ -53,4 +53,4 @@ returns-clause-ok g c = λ l.
 pub returns-clause-fit : goal.returns-clause-fit
 returns-clause-fit g c =
     c.change_places.ensures.fit
-    (fit_grown c.args.around.now.number c.args.self.now c.reserve_entry.new.self c.reserve_entry.ensures.grown c.requires.served.fit)
+    (fit_grown c.args.context.now.number c.args.self.now c.reserve_entry.new.self c.reserve_entry.ensures.grown c.requires.served.fit)

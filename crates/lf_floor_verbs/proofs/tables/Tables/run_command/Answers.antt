@@ -7,8 +7,8 @@ use Rattle.lf_floor_verbs.proofs.tables.Tables.run_command.Goals as goal
 
 pub returns-in-Some-clause-untested : goal.returns-in-Some-clause-untested
 returns-in-Some-clause-untested g c = λ l.
-    let t = context_in l c.args.around.now c.args.self.now in
-    let s = team_in c.args.around.now c.args.self.now in
+    let t = context_in l c.args.context.now c.args.self.now in
+    let s = team_in c.args.context.now c.args.self.now in
     let session = c.in-Within.session in
     let action = action_of c.in-Within.action in
     let within : outcome_of t (Within session action) s ≡ outcome_within c.in-Some.seen t session action s =
@@ -17,8 +17,8 @@ returns-in-Some-clause-untested g c = λ l.
 
 pub returns-in-Some-clause-ok : goal.returns-in-Some-clause-ok
 returns-in-Some-clause-ok g c = λ l.
-    let t = context_in l c.args.around.now c.args.self.now in
-    let s = team_in c.args.around.now c.args.self.now in
+    let t = context_in l c.args.context.now c.args.self.now in
+    let s = team_in c.args.context.now c.args.self.now in
     let session = c.in-Within.session in
     let action = action_of c.in-Within.action in
     let within : outcome_of t (Within session action) s ≡ outcome_within c.in-Some.seen t session action s =

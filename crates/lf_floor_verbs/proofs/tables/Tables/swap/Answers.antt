@@ -8,9 +8,9 @@ use Rattle.lf_floor_verbs.proofs.tables.Tables.swap.Goals as goal
 
 pub returns-clause-ok : goal.returns-clause-ok
 returns-clause-ok g c = λ l.
-    let t = context_in l c.args.around.now c.args.self.now in
-    let number = c.args.around.now.number in
-    let s = team_in c.args.around.now c.args.self.now in
+    let t = context_in l c.args.context.now c.args.self.now in
+    let number = c.args.context.now.number in
+    let s = team_in c.args.context.now c.args.self.now in
     let a = c.in-Some.first in
     let b = c.in-Some-cell_named.second in
     let first = c.in-Some.ensures {u = tt} in
@@ -24,9 +24,9 @@ returns-clause-ok g c = λ l.
 
 pub returns-clause-err : goal.returns-clause-err
 returns-clause-err g c = λ l.
-    let t = context_in l c.args.around.now c.args.self.now in
-    let number = c.args.around.now.number in
-    let s = team_in c.args.around.now c.args.self.now in
+    let t = context_in l c.args.context.now c.args.self.now in
+    let number = c.args.context.now.number in
+    let s = team_in c.args.context.now c.args.self.now in
     let a = c.in-Some.first in
     let b = c.in-Some-cell_named.second in
     let first = c.in-Some.ensures {u = tt} in

@@ -16,28 +16,28 @@ returns-in-Some-clause-ok g c = λ l.
     let x = c.args.exchange.now in
     let are = c.requires.are in
     let k = x.first.team in
-    let number = c.args.around.now.number in
+    let number = c.args.context.now.number in
     let p = c.args.self.now.placement in
     let rule = c.in-Some.rule in
     let cells = cells_of p.cells k in
     let here : IsExchange k cells x = subst (λ (n : ℕ). IsExchange n (cells_of p.cells n) x) (Rattle.std.proofs.Common.sym are.first) are in
     let now = moved (moved cells x.first.own (Some x.to)) x.second.own (Some x.from) in
-    let verdict : first_broken rule ≡ broken_at (team_rules l p.frame k c.args.around.now.padding.sites) now x.first.own x.to =
-    alone_anywhere l p c.args.around.now.padding.sites x.first x.to x.from rule now c.verdict_is_unique.ensures (c.cells_are_sized.ensures.sized k) here.from
+    let verdict : first_broken rule ≡ broken_at (team_rules l p.frame k c.args.context.now.padding.sites) now x.first.own x.to =
+    alone_anywhere l p c.args.context.now.padding.sites x.first x.to x.from rule now c.verdict_is_unique.ensures (c.cells_are_sized.ensures.sized k) here.from
     (same_both cells x.first.own x.second.own x.from x.to here.from here.to)
     (subst (λ (a : Option Rule). IsBrokenFrameRule p x.first x.to a) c.in-Some.is c.broken_frame_rule-alone.ensures) in
-    rw (swap_refused (context_in l c.args.around.now c.args.self.now) c.args.session x.first.own x.second.own (team_in c.args.around.now c.args.self.now)
+    rw (swap_refused (context_in l c.args.context.now c.args.self.now) c.args.session x.first.own x.second.own (team_in c.args.context.now c.args.self.now)
     (Illegal rule x.first.own None)
     (first_refused (table_cells number c.args.self.now) x.first.own x.second.own x.from x.to are.from are.to
-    (context_in l c.args.around.now c.args.self.now) rule
+    (context_in l c.args.context.now c.args.self.now) rule
     (subst (λ (n : ℕ). first_broken rule
-    ≡ broken_at (team_rules l p.frame n c.args.around.now.padding.sites) (moved (moved (cells_of p.cells n) x.first.own (Some x.to)) x.second.own (Some x.from)) x.first.own x.to) are.first verdict)))
+    ≡ broken_at (team_rules l p.frame n c.args.context.now.padding.sites) (moved (moved (cells_of p.cells n) x.first.own (Some x.to)) x.second.own (Some x.from)) x.first.own x.to) are.first verdict)))
     record { reply_is = refl; team_is = refl }
 
 pub exchange-requires-clause-first : goal.exchange-requires-clause-first
 exchange-requires-clause-first g c =
     let x = c.args.exchange.now in
-    let number = c.args.around.now.number in
+    let number = c.args.context.now.number in
     let p = c.args.self.now.placement in
     let q = c.reserve_moves.new.self.placement in
     alone_moved number p q x.first x.to None c.requires.are.first (only_grown number p q c.reserve_moves.ensures.grown.placement)

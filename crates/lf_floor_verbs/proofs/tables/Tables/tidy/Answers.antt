@@ -11,34 +11,34 @@ use Rattle.lf_floor_verbs.proofs.tables.Tables.tidy.Goals as goal
 
 pub returns-in_err-marks-clause-err : goal.returns-in_err-marks-clause-err
 returns-in_err-marks-clause-err g c = λ l.
-    let s = team_in c.args.around.now c.args.self.now in
-    on_err_from c.from_residual.result (tidy_short (context_in l c.args.around.now c.args.self.now) c.args.session s s refl)
+    let s = team_in c.args.context.now c.args.self.now in
+    on_err_from c.from_residual.result (tidy_short (context_in l c.args.context.now c.args.self.now) c.args.session s s refl)
 
 pub returns-in_err-moves-clause-err : goal.returns-in_err-moves-clause-err
 returns-in_err-moves-clause-err g c = λ l.
-    let s = team_in c.args.around.now c.args.self.now in
-    on_err_from c.from_residual-in_err-moves.result (tidy_short (context_in l c.args.around.now c.args.self.now) c.args.session s s refl)
+    let s = team_in c.args.context.now c.args.self.now in
+    on_err_from c.from_residual-in_err-moves.result (tidy_short (context_in l c.args.context.now c.args.self.now) c.args.session s s refl)
 
 pub returns-in_err-reserve_entry-clause-err : goal.returns-in_err-reserve_entry-clause-err
 returns-in_err-reserve_entry-clause-err g c = λ l.
     let old = c.args.self.now in
     let new = c.reserve_entry.new.self in
     on_err_from c.from_residual-in_err-reserve_entry.result
-    (tidy_short (context_in l c.args.around.now old) c.args.session (team_in c.args.around.now old) (team_in c.args.around.now new)
-    (grown_team c.args.around.now.number old new c.reserve_entry.ensures.grown))
+    (tidy_short (context_in l c.args.context.now old) c.args.session (team_in c.args.context.now old) (team_in c.args.context.now new)
+    (grown_team c.args.context.now.number old new c.reserve_entry.ensures.grown))
 
 pub returns-in-Ok-Done-clause-ok : goal.returns-in-Ok-Done-clause-ok
 returns-in-Ok-Done-clause-ok g c = λ l.
-    let number = c.args.around.now.number in
+    let number = c.args.context.now.number in
     let old = c.args.self.now in
     let mid = c.reserve_entry.new.self in
     let before = table_cells number mid in
     let now = cells_of c.tidy_cells.new.placement.cells number in
     let still = c.reserve_entry.ensures.placement in
     let have = c.tidy_cells.ensures.moved before (from_none before c.in_ok-moves.moves (c.in_ok-moves.ensures {u = tt})) in
-    tidied_reaches (context_in l c.args.around.now old) number c.args.session c.push_undo-revision.result c.in-Ok-Done.moved old c.push_undo-revision.new.self now
+    tidied_reaches (context_in l c.args.context.now old) number c.args.session c.push_undo-revision.result c.in-Ok-Done.moved old c.push_undo-revision.new.self now
     c.in-Ok-Done.field-0 c.requires.change.served.limit
-    (subst (λ (p : Placing). TidiesCells (context_at l c.args.around.now p) (cells_of p.cells number) now c.in-Ok-Done.field-0) still ((c.in-Ok-Done.ensures {u = tt}).ok l))
+    (subst (λ (p : Placing). TidiesCells (context_at l c.args.context.now p) (cells_of p.cells number) now c.in-Ok-Done.field-0) still ((c.in-Ok-Done.ensures {u = tt}).ok l))
     c.in-Ok-Done.field-0-is
     (subst (λ (p : Placing). SameButPlaces (cells_of p.cells number) now) still c.tidy_cells.ensures.only.same)
     (c.push_undo-revision.ensures.team before have
@@ -48,7 +48,7 @@ returns-in-Ok-Done-clause-ok g c = λ l.
 
 pub returns-in-Ok-Done-clause-fit : goal.returns-in-Ok-Done-clause-fit
 returns-in-Ok-Done-clause-fit g c =
-    let number = c.args.around.now.number in
+    let number = c.args.context.now.number in
     let old = c.args.self.now in
     let mid = c.reserve_entry.new.self in
     let before = table_cells number mid in
@@ -59,46 +59,46 @@ returns-in-Ok-Done-clause-fit g c =
 
 pub undo_moves-requires : goal.undo_moves-requires
 undo_moves-requires g c =
-    let number = c.args.around.now.number in
+    let number = c.args.context.now.number in
     let before = table_cells number c.reserve_entry.new.self in
     back_fits number c.tidy_cells.new.moves before c.reserve_entry.new.self.placement c.tidy_cells.new.placement c.tidy_cells.ensures.only (c.boxes_match_places.ensures number)
     (c.tidy_cells.ensures.moved before (from_none before c.in_ok-moves.moves (c.in_ok-moves.ensures {u = tt})))
 
 pub undo_moves-requires-in-Err : goal.undo_moves-requires-in-Err
 undo_moves-requires-in-Err g c =
-    let number = c.args.around.now.number in
+    let number = c.args.context.now.number in
     let before = table_cells number c.reserve_entry.new.self in
     back_fits number c.tidy_cells.new.moves before c.reserve_entry.new.self.placement c.tidy_cells.new.placement c.tidy_cells.ensures.only (c.boxes_match_places.ensures number)
     (c.tidy_cells.ensures.moved before (from_none before c.in_ok-moves.moves (c.in_ok-moves.ensures {u = tt})))
 
 pub returns-in-Ok-Stopped-clause-ok : goal.returns-in-Ok-Stopped-clause-ok
 returns-in-Ok-Stopped-clause-ok g c = λ l.
-    let number = c.args.around.now.number in
+    let number = c.args.context.now.number in
     let old = c.args.self.now in
     let mid = c.reserve_entry.new.self in
     let before = table_cells number mid in
     let now = cells_of c.tidy_cells.new.placement.cells number in
     let have = c.tidy_cells.ensures.moved before (from_none before c.in_ok-moves.moves (c.in_ok-moves.ensures {u = tt})) in
-    stuck_reaches (context_in l c.args.around.now old) c.args.session c.in-Ok-Stopped.cell (team_in c.args.around.now old)
+    stuck_reaches (context_in l c.args.context.now old) c.args.session c.in-Ok-Stopped.cell (team_in c.args.context.now old)
     (own_team number record mid { placement = c.undo_moves.new.self }) now c.in-Ok-Stopped.field-0
-    (subst (λ (p : Placing). TidiesCells (context_at l c.args.around.now p) (cells_of p.cells number) now c.in-Ok-Stopped.field-0) c.reserve_entry.ensures.placement
+    (subst (λ (p : Placing). TidiesCells (context_at l c.args.context.now p) (cells_of p.cells number) now c.in-Ok-Stopped.field-0) c.reserve_entry.ensures.placement
     ((c.in-Ok-Stopped.ensures {u = tt}).ok l)) c.in-Ok-Stopped.field-0-is
     (back_to number mid c.undo_moves.new.self (c.undo_moves.ensures.own before have) ∙ grown_team number old mid c.reserve_entry.ensures.grown)
 
 pub returns-clause-err : goal.returns-clause-err
 returns-clause-err g c = λ l.
-    let number = c.args.around.now.number in
+    let number = c.args.context.now.number in
     let old = c.args.self.now in
     let mid = c.reserve_entry.new.self in
     let before = table_cells number mid in
     let have = c.tidy_cells.ensures.moved before (from_none before c.in_ok-moves.moves (c.in_ok-moves.ensures {u = tt})) in
-    tidy_short (context_in l c.args.around.now old) c.args.session (team_in c.args.around.now old)
+    tidy_short (context_in l c.args.context.now old) c.args.session (team_in c.args.context.now old)
     (own_team number record mid { placement = c.undo_moves-in-Err.new.self })
     (back_to number mid c.undo_moves-in-Err.new.self (c.undo_moves-in-Err.ensures.own before have) ∙ grown_team number old mid c.reserve_entry.ensures.grown)
 
 pub returns-in-Ok-Stopped-clause-fit : goal.returns-in-Ok-Stopped-clause-fit
 returns-in-Ok-Stopped-clause-fit g c =
-    let number = c.args.around.now.number in
+    let number = c.args.context.now.number in
     let old = c.args.self.now in
     let mid = c.reserve_entry.new.self in
     let sent = c.tidy_cells.new.placement in
@@ -111,7 +111,7 @@ returns-in-Ok-Stopped-clause-fit g c =
 
 pub returns-clause-fit : goal.returns-clause-fit
 returns-clause-fit g c =
-    let number = c.args.around.now.number in
+    let number = c.args.context.now.number in
     let old = c.args.self.now in
     let mid = c.reserve_entry.new.self in
     let sent = c.tidy_cells.new.placement in
