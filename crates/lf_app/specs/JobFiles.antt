@@ -1,7 +1,7 @@
 -- The files that a job reads and writes, as its functions receive them.
 use Rattle.std.specs.Prelude.{◌≡◌, List, None, Option, map, ℕ}
 use Rattle.lf_floorplan.specs.declared.limits.Limits.{Limits}
-use Rattle.lf_cli.specs.Command.{Job, RepairPaths, check, demo, describe, improve, repair, replay, serve, wirelength}
+use Rattle.lf_cli.specs.Command.{Job, RepairPaths, check, demo, describe, gather, improve, repair, replay, serve, slice, wirelength}
 use Rattle.lf_task_files.specs.declared.inputs.DesignInput.{DesignInput}
 use Rattle.lf_task_files.specs.declared.outputs.OutputPaths.{OutputPaths}
 use Rattle.lf_task_files.specs.Inputs.{path_of}
@@ -25,16 +25,19 @@ IsInputOf limits (replay def lefs state slots lines save export) input = IsInput
 IsInputOf limits (serve def lefs state slots port connections save export) input = IsInputAt limits def lefs state input
 IsInputOf limits (repair def lefs state slots teams options files) input = IsInputAt limits def lefs state input
 IsInputOf limits (improve def lefs slots teams within options files) input = IsInputAt limits def lefs None input
+IsInputOf limits (slice def lefs team output) input = IsInputAt limits def lefs None input
+IsInputOf limits (gather def lefs states slots save export) input = IsInputAt limits def lefs None input
 
 -- The outputs have these paths.
 pub record AreOutputsAt (save export : Option (List ℕ)) (outputs : OutputPaths) : Type 0 where
   pub save_is : path_of outputs.save ≡ save
   pub export_is : path_of outputs.export ≡ export
 
--- The outputs are the files that a job writes after its lines.
+-- The outputs are the files that a job on lines, or on several states, writes at its end.
 abbrev pub AreOutputsOf : Job → OutputPaths → Type 0
 AreOutputsOf (replay def lefs state slots lines save export) outputs = AreOutputsAt save export outputs
 AreOutputsOf (serve def lefs state slots port connections save export) outputs = AreOutputsAt save export outputs
+AreOutputsOf (gather def lefs states slots save export) outputs = AreOutputsAt save export outputs
 AreOutputsOf job outputs = Unit {0}
 
 -- What a repair or an improvement requests.

@@ -25,12 +25,14 @@ use lf_lef::DEMO_LEF;
 use lf_task_designs::{FsInputFiles, limits_for, load_texts};
 use lf_task_faults::{Fault, TaskExit, exit_with, report_fault};
 use lf_task_files::{DesignInput, OutputPaths, check, describe_files};
+use lf_task_gather::gather_files;
 use lf_task_improve::Improve;
 use lf_task_repair::Repair;
 use lf_task_run::{Job, NoProgress, run_task};
 use lf_task_serve::{
     Devices, Environment, LineSource, NetListener, Shows, serve_files, serve_loaded,
 };
+use lf_task_slice::slice_files;
 use lf_task_wires::wirelength;
 use std::alloc::Global;
 use std::io::{Read, Write};
@@ -127,6 +129,8 @@ fn input_of<'a>(task: &'a Task<'_>, limits: Limits) -> DesignInput<'a>
             ..
         } => input_at(*def, lefs.as_slice(), *state, limits),
         Task::Improve { def, lefs, .. } => input_at(*def, lefs.as_slice(), None, limits),
+        Task::Slice { def, lefs, .. } => input_at(*def, lefs.as_slice(), None, limits),
+        Task::Gather { def, lefs, .. } => input_at(*def, lefs.as_slice(), None, limits),
     }
 }
 
@@ -140,6 +144,10 @@ fn outputs_of<'a>(task: &'a Task<'_>) -> OutputPaths<'a>
             save: *save,
         },
         Task::Serve { save, export, .. } => OutputPaths {
+            export: *export,
+            save: *save,
+        },
+        Task::Gather { save, export, .. } => OutputPaths {
             export: *export,
             save: *save,
         },
@@ -299,6 +307,22 @@ fn outcome_within<'a, D: Devices>(
                 &work,
             )
         }
+        Task::Slice { team, output, .. } => slice_files(
+            alloc,
+            &environment.texts,
+            inputs,
+            *team,
+            *output,
+            &mut environment.exports,
+        ),
+        Task::Gather { states, .. } => gather_files(
+            alloc,
+            &environment.texts,
+            inputs,
+            states.as_slice(),
+            outputs_of(task),
+            &mut environment.exports,
+        ),
     }
 }
 
@@ -315,6 +339,8 @@ fn slots_of(task: &Task<'_>) -> Slots
         Task::Demo => Slots::standard(),
         Task::Repair { slots, .. } => *slots,
         Task::Improve { slots, .. } => *slots,
+        Task::Slice { .. } => Slots::standard(),
+        Task::Gather { slots, .. } => *slots,
     }
 }
 

@@ -4,7 +4,7 @@
 ghost use Rattle.std.specs.Prelude.{◌≡◌, Decides, map, length};
 ghost use Rattle.lf_probe.specs.Rows.{row_view};
 
-use lf_floorplan::PackedPlace;
+use lf_floorplan::{PackedPlace, same_place};
 use lf_undo::{Move, Moves};
 
 /// The places of a cell.
@@ -23,11 +23,29 @@ pub struct Row {
     pub entries: Vec<Moves>,
 }
 
+/// Returns whether both places of the cells are the same.
+fn is_same_cell(one: &SavedCell, other: &SavedCell) -> bool
+    ensures { Decides result (one.now ≡ other.now) }
+{
+    if !same_place(one.working.place(), other.working.place()) {
+        return false;
+    }
+    same_place(one.committed.place(), other.committed.place())
+}
+
 /// Returns whether the places of all cells are the same.
 fn are_same_cells(one: &[SavedCell], other: &[SavedCell]) -> bool
     ensures { Decides result (one.now ≡ other.now) }
 {
-    one == other
+    if one.len() != other.len() {
+        return false;
+    }
+    for at in 0..one.len() {
+        if !is_same_cell(&one[at], &other[at]) {
+            return false;
+        }
+    }
+    true
 }
 
 /// Returns whether the session slots are the same.
@@ -37,11 +55,29 @@ fn are_same_slots(one: &[Option<u32>], other: &[Option<u32>]) -> bool
     one == other
 }
 
+/// Returns whether the moves are the same.
+fn is_same_move(one: &Move, other: &Move) -> bool
+    ensures { Decides result (one.now ≡ other.now) }
+{
+    if one.own != other.own {
+        return false;
+    }
+    same_place(one.place.place(), other.place.place())
+}
+
 /// Returns whether the moves of an undo entry are the same.
 fn are_same_moves(one: &[Move], other: &[Move]) -> bool
     ensures { Decides result (one.now ≡ other.now) }
 {
-    one == other
+    if one.len() != other.len() {
+        return false;
+    }
+    for at in 0..one.len() {
+        if !is_same_move(&one[at], &other[at]) {
+            return false;
+        }
+    }
+    true
 }
 
 /// Returns whether the undo entries are the same.

@@ -3,14 +3,33 @@
 ghost use Rattle.std.specs.Prelude.{◌≡◌, Decides};
 ghost use Rattle.lf_state_text.specs.Saved.{team_view};
 
+use lf_floorplan::same_place;
 use lf_state_text::{SavedCell, SavedTeamRow};
 use lf_undo::{Move, Moves};
+
+/// Returns whether both places of the cells are the same.
+fn is_same_cell(one: &SavedCell, other: &SavedCell) -> bool
+    ensures { Decides result (one.now ≡ other.now) }
+{
+    if !same_place(one.working.place(), other.working.place()) {
+        return false;
+    }
+    same_place(one.committed.place(), other.committed.place())
+}
 
 /// Returns whether the places of all cells are the same.
 fn are_same_cells(one: &[SavedCell], other: &[SavedCell]) -> bool
     ensures { Decides result (one.now ≡ other.now) }
 {
-    one == other
+    if one.len() != other.len() {
+        return false;
+    }
+    for at in 0..one.len() {
+        if !is_same_cell(&one[at], &other[at]) {
+            return false;
+        }
+    }
+    true
 }
 
 /// Returns whether the session slots are the same.
@@ -20,11 +39,29 @@ fn are_same_slots(one: &[Option<u32>], other: &[Option<u32>]) -> bool
     one == other
 }
 
+/// Returns whether the moves are the same.
+fn is_same_move(one: &Move, other: &Move) -> bool
+    ensures { Decides result (one.now ≡ other.now) }
+{
+    if one.own != other.own {
+        return false;
+    }
+    same_place(one.place.place(), other.place.place())
+}
+
 /// Returns whether the moves of an undo entry are the same.
 fn are_same_moves(one: &[Move], other: &[Move]) -> bool
     ensures { Decides result (one.now ≡ other.now) }
 {
-    one == other
+    if one.len() != other.len() {
+        return false;
+    }
+    for at in 0..one.len() {
+        if !is_same_move(&one[at], &other[at]) {
+            return false;
+        }
+    }
+    true
 }
 
 /// Returns whether the undo entries are the same.

@@ -1,6 +1,6 @@
 //! The slice of a design of files.
 
-ghost use Rattle.std.specs.Prelude.{◌≡◌, ◌∷◌, [], Some, bytes_eq, IfErr, IfOk, OnErr, OnOk, map};
+ghost use Rattle.std.specs.Prelude.{◌≡◌, ◌∷◌, [], Some, bytes_eq, IfErr, IfOk, OnErr, OnOk, map, position};
 ghost use Rattle.lf_floorplan.specs.Fences.{ground_name};
 ghost use Rattle.lf_floor_model.specs.Teams.{team_number};
 ghost use Rattle.lf_task_run.specs.Teams.{IsUnknown};
@@ -45,6 +45,17 @@ fn is_ground(name: &[u8]) -> bool
     ensures { result ≡ bytes_eq ground_name name.now }
 {
     matches!(name, [b'-'])
+}
+
+/// Returns the number of the fence of that name. `None` if no fence has the name.
+fn fence_named(frame: &Frame, name: &[u8]) -> Option<usize>
+    ensures found { result ≡ position (λ t. bytes_eq t.name name.now) frame.now.teams }
+{
+    frame
+        .teams
+        .as_slice()
+        .iter()
+        .position(|team| team.name.is(name))
 }
 
 /// Returns the number of the team of that name: the fence teams in the frame's order, then the one

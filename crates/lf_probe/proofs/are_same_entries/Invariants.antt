@@ -1,7 +1,6 @@
-use Rattle.std.proofs.Common.{◌≡◌, ◌<◌, ℕ, List, []}
+use Rattle.std.proofs.Common.{◌≡◌, ◌<◌, ℕ, []}
 use Rattle.std.specs.Prelude.{slice_index_or}
-use Rattle.lf_undo.specs.declared.moves.Move.{Move}
 use Rattle.lf_probe.proofs.are_same_entries.Given as goal
 
 abbrev pub invariant-loop-at : goal.invariant-loop-at
-invariant-loop-at l = record { same : (k : ℕ) → k < l.at → slice_index_or l.one k ([] {Move}) ≡ slice_index_or l.other k [] }
+invariant-loop-at l = record { same : (k : ℕ) → k < l.at → slice_index_or l.one k [] ≡ slice_index_or l.other k [] }

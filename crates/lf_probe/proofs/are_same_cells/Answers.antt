@@ -1,6 +1,0 @@
-use Rattle.std.proofs.Common.{rules}
-use Rattle.std.proofs.lemmas.Slice.Eq.{slice_eq-Decides}
-use Rattle.lf_probe.proofs.are_same_cells.Goals as goal
-
-pub returns : goal.returns
-returns c = slice_eq-Decides (λ a b. ?) c.args.one.now c.args.other.now c.eq.result c.eq.ensures
