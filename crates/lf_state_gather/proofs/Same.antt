@@ -1,11 +1,11 @@
--- Lists whose elements are the same.
+-- Elements of the rows of a state: those after the last one, and when two are the same.
 use Rattle.std.proofs.Common.{◌≡◌, ◌<◌, ◌==◌, ℕ, Bool, true, false, List, length, ap, refl, subst, sym}
 use Rattle.std.specs.Prelude.{Decides, Option, Some, None, slice_index_or}
 use Rattle.std.specs.Option.{option_eq}
 use Rattle.std.proofs.lemmas.Bool.Decides.{Decides-eqb}
 use Rattle.std.proofs.lemmas.List.{ext_get_or}
 use Rattle.lf_undo.specs.declared.moves.Move.{Move}
-use Rattle.lf_probe.specs.declared.SavedCell.{SavedCell}
+use Rattle.lf_state_text.specs.declared.saved_rows.SavedCell.{SavedCell}
 
 pub no_cell : SavedCell
 no_cell = record { working = None; committed = None }
