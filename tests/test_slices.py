@@ -40,7 +40,8 @@ FIXED = "\n- fixed INV + FIXED ( 4400 2000 ) FS ;"
 KEPT = "VIAS 1 ;\n- v + RECT m ( 0 0 ) ( 1 1 ) ;\nEND VIAS\n# COMPONENTS 9 ;\n"
 SLICES = {
     "A": (
-        f"{FRONT}COMPONENTS 3 ;\n- a1 INV + SOURCE DIST ;\n- a2 INV + UNPLACED ;\n- a3 DBL + WEIGHT 3 ;\nEND COMPONENTS\n"
+        f"{FRONT}COMPONENTS 3 ;\n- a1 INV + SOURCE DIST ;\n- a2 INV + UNPLACED ;\n- a3 DBL + WEIGHT 3 ;\n"
+        "END COMPONENTS\n"
         f"{BLOCKED}GROUPS 1 ;\n- ga a* + REGION A ;\nEND GROUPS\n{KEPT}COMPONENTS 2 ; # of several teams{FIXED}\n"
         '- a"x INV + PROPERTY p "; - b9 INV ; END COMPONENTS" ;\nEND COMPONENTS\nGROUPS 1 ;'
         ' - more a"x b9 + SOFT + REGION A ;\nEND GROUPS\nEND DESIGN\n'
@@ -52,8 +53,8 @@ SLICES = {
     ),
     "-": (
         f"{FRONT}COMPONENTS 1 ;\n- g1 INV ;\nEND COMPONENTS\n{BLOCKED}GROUPS 0 ;\nEND GROUPS\n"
-        f"{KEPT}COMPONENTS 2 ; # of several teams{FIXED}\n  - g2 # a comment ; with a semicolon\n  INV ;\nEND COMPONENTS\n"
-        "GROUPS 0 ;\nEND GROUPS\nEND DESIGN\n"
+        f"{KEPT}COMPONENTS 2 ; # of several teams{FIXED}\n  - g2 # a comment ; with a semicolon\n  INV ;\n"
+        "END COMPONENTS\nGROUPS 0 ;\nEND GROUPS\nEND DESIGN\n"
     ),
 }
 

@@ -49,7 +49,7 @@ GROUPS = {
         "spans, numbers, boxes, orientations, and the types of a frame",
     ),
     "texts": Group(
-        "lf_lex lf_names lf_lef lf_def lf_team_def lf_write lf_describe",
+        "lf_lex lf_names lf_lef lf_def lf_slice lf_team_def lf_write lf_describe",
         "tokens, names, the readers of LEF and DEF, and what is written of a design",
     ),
     "loading": Group(
@@ -300,7 +300,7 @@ RULES = (
     ),
     Rule(
         "lf_task_faults lf_task_designs lf_task_files lf_task_wires lf_task_run lf_task_serve lf_task_repair"
-        " lf_task_improve lf_app lefence",
+        " lf_task_improve lf_task_gather lf_task_slice lf_app lefence",
         Kind.ORDERED,
         "",
         "What tasks share is below them. `lf_task_repair` and `lf_task_improve` are works that `lf_task_run` runs.",
