@@ -21,7 +21,7 @@ use Rattle.lf_task_run.specs.Teams.{IsUnknown}
 
 -- ---- what is compared
 
--- the frames have the same header, core site, rows, fences, obstacles, soft blockages and limits
+-- the frames have the same header, core site, rows, fences, obstacles and soft blockages
 pub record AreSameFrames (f g : Frame) : Type 0 where
   pub header : f.header ≡ g.header
   pub site : f.site ≡ g.site
@@ -30,7 +30,6 @@ pub record AreSameFrames (f g : Frame) : Type 0 where
   pub fences : f.teams ≡ g.teams
   pub obstacles : f.obstacles ≡ g.obstacles
   pub soft : f.soft ≡ g.soft
-  pub limits : f.limits ≡ g.limits
 
 -- the cell at that position is of the team of that number, with the same name, macro and place
 pub record IsSameCell (part : List LoadedCell) (at : ℕ) (cell : LoadedCell) (number : ℕ) : Type 0 where

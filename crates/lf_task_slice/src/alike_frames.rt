@@ -3,14 +3,48 @@
 ghost use Rattle.std.specs.Prelude.{◌≡◌, IsTrue};
 ghost use Rattle.lf_task_slice.specs.Slices.{AreSameFrames};
 
-use lf_floorplan::{Frame, Header, Limits, Row, Site, Team};
-use lf_units::{Name, Rect};
+use lf_floorplan::{Frame, Header, Row, Site, Team};
+use lf_orient::Orient;
+use lf_units::{Name, Point, Rect};
 
 /// Returns whether the names are the same.
 fn is_same_name(one: &Name, other: &Name) -> bool
     ensures { IsTrue result → one.now ≡ other.now }
 {
     one.is(other.as_bytes())
+}
+
+/// Returns whether the points are the same.
+fn is_same_point(one: &Point, other: &Point) -> bool
+    ensures { IsTrue result → one.now ≡ other.now }
+{
+    if one.x != other.x {
+        return false;
+    }
+    one.y == other.y
+}
+
+/// Returns whether the rectangles are the same.
+fn is_same_rect(one: &Rect, other: &Rect) -> bool
+    ensures { IsTrue result → one.now ≡ other.now }
+{
+    if one.x1 != other.x1 {
+        return false;
+    }
+    if one.y1 != other.y1 {
+        return false;
+    }
+    if one.x2 != other.x2 {
+        return false;
+    }
+    one.y2 == other.y2
+}
+
+/// Returns whether the orientations are the same.
+fn is_same_orient(one: Orient, other: Orient) -> bool
+    ensures { IsTrue result → one ≡ other }
+{
+    one == other
 }
 
 /// Returns whether the headers are the same.
@@ -39,10 +73,13 @@ fn is_same_site(one: &Site, other: &Site) -> bool
     if one.core != other.core {
         return false;
     }
-    if one.size != other.size {
+    if !is_same_point(&one.size, &other.size) {
         return false;
     }
-    if one.symmetry != other.symmetry {
+    if one.symmetry.x != other.symmetry.x {
+        return false;
+    }
+    if one.symmetry.y != other.symmetry.y {
         return false;
     }
     is_same_name(&one.name, &other.name)
@@ -61,7 +98,7 @@ fn is_same_row(one: &Row, other: &Row) -> bool
     if one.sites != other.sites {
         return false;
     }
-    if one.orient != other.orient {
+    if !is_same_orient(one.orient, other.orient) {
         return false;
     }
     is_same_name(&one.name, &other.name)
@@ -86,7 +123,15 @@ fn are_same_rows(one: &[Row], other: &[Row]) -> bool
 fn are_same_rects(one: &[Rect], other: &[Rect]) -> bool
     ensures { IsTrue result → one.now ≡ other.now }
 {
-    one == other
+    if one.len() != other.len() {
+        return false;
+    }
+    for at in 0..one.len() {
+        if !is_same_rect(&one[at], &other[at]) {
+            return false;
+        }
+    }
+    true
 }
 
 /// Returns whether the fences are the same.
@@ -114,22 +159,12 @@ fn are_same_fences(one: &[Team], other: &[Team]) -> bool
     true
 }
 
-/// Returns whether the limits are the same.
-fn are_same_limits(one: &Limits, other: &Limits) -> bool
-    ensures { IsTrue result → one.now ≡ other.now }
-{
-    one == other
-}
-
-/// Returns whether the frames have the same header, core site, rows, fences, obstacles, soft
-/// blockages and limits.
+/// Returns whether the frames have the same header, core site, rows, fences, obstacles and soft
+/// blockages.
 pub(crate) fn are_same_frames(one: &Frame, other: &Frame) -> bool
     ensures { IsTrue result → AreSameFrames one.now other.now }
 {
-    if one.pitch != other.pitch {
-        return false;
-    }
-    if !are_same_limits(&one.limits, &other.limits) {
+    if !is_same_point(&one.pitch, &other.pitch) {
         return false;
     }
     if !is_same_header(&one.header, &other.header) {
