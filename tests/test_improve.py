@@ -409,6 +409,23 @@ class Improve(InFolder):
         new = self.places()[1]
         self.assertEqual([new[name][:2] for name in "uwxz"], [(0, 2000), (400, 0), (0, 0), (400, 2000)])
 
+    def test_two_tall_cells_exchange_places(self) -> None:
+        # u, w and x of two rows fill their sites. u and w are each joined to the middle of the place of the other.
+        nets = [("u", 1500, 2000), ("w", 300, 2000), ("x", 900, 2000)]
+        text = two_rows(9, {"u": (0, 0), "x": (3, 0), "w": (6, 0)}, nets).replace(" INV ", " DBL ")
+        report = self.improve(text)
+        self.assertEqual((report[-1]["doubled_before"], report[-1]["doubled"], report[-1]["moved"]), (4800, 0, 2))
+        new = self.places()[1]
+        self.assertEqual([new[name][:2] for name in "uxw"], [(1200, 0), (600, 0), (0, 0)])
+
+    def test_a_tall_cell_takes_no_place_of_another_height(self) -> None:
+        # Each is joined to the place of the other, and both take three sites. But u covers two rows, and w one.
+        nets = [("u", 900, 2000), ("w", 300, 1000)]
+        text = two_rows(6, {"u": (0, 0), "w": (3, 0)}, nets)
+        text = text.replace("- u INV", "- u DBL").replace("- w INV", "- w NAND")
+        report = self.improve(text)
+        self.assertEqual(report[-1]["moved"], 0)
+
     def test_a_cell_is_inserted_between_two(self) -> None:
         # c is wanted between p and q, where one site is free: q moves by one site. Each other cell has two nets, so
         # an exchange costs more.

@@ -57,9 +57,9 @@ GROUPS = {
         "the claims of fences, the refusals of designs, the frame and the cells of a design",
     ),
     "placement": Group(
-        "lf_segments lf_density lf_rules lf_cells lf_undo lf_occupancy lf_legalize lf_reports "
-        "lf_placement",
-        "the usable spans of rows, how full they are, the rules, the cells, and the search for best places",
+        "lf_segments lf_density lf_rules lf_cells lf_undo lf_occupancy lf_legalize lf_reports lf_placement",
+        "the usable spans of rows and their index by position, how full they are, the rules, the cells, and the search"
+        " for best places",
     ),
     "protocol": Group(
         "lf_cli lf_proto lf_sessions lf_server",
@@ -67,28 +67,35 @@ GROUPS = {
     ),
     "hub": Group(
         "lf_hub lf_hub_*",
-        "many clients over one floor. `_clients` has the lines and replies of one connection, `_turns` says whose line"
-        " is next, and `lf_hub` proves laws of all of them. It knows no socket and no disk",
+        "many clients over one floor. `_clients` has the lines and replies of connections, `_turns` says whose line is"
+        " next, and `lf_hub` joins them and has the laws. It knows no socket and no disk. No program uses these crates"
+        " yet: the hub that runs is `front/lefence/hub`",
     ),
     "floor": Group(
         "lf_floor lf_floor_*",
         "the state of all teams. `lf_floor_model` defines outcomes and proves laws, and has no code. `lf_floor_verbs`"
         " changes the tables. `lf_floor` finds the team, saves and restores",
     ),
-    "state": Group("lf_state_*", "the text of a saved state"),
+    "state": Group("lf_state_text", "the text of a saved state, written and read"),
     "journal": Group(
         "lf_journal lf_journal_*",
-        "the journal of a hub. `_text` is its text, `lf_journal` puts batches on a disk, `_file` is a file as a disk",
+        "the journal of a hub. `_text` is its text, `lf_journal` puts batches on a disk, `_file` is a file as a disk."
+        " No program uses these crates yet: the journal of today's hub is `front/lefence/journal`",
     ),
-    "repairs": Group("lf_repair_*", "legal places for many cells"),
+    "repairs": Group(
+        "lf_repair_*",
+        "legal places for many cells. `_planner` plans the places of a team's cells, `_strategy` lists edits, `_team`"
+        " sends them to a floor. `_bounds` computes how far cells must move at least, and which macros have no place",
+    ),
     "wires": Group(
         "lf_wire_*",
-        "nets and their lengths. `_pins` and `_nets` read texts, `_length` measures, `_binding` finds the cells of"
-        " pins, `_density` counts pins in bins. `_targets` says where cells without a place are"
-        " near their nets. `_board` measures what moves of cells change, and `_improver` looks for moves that make nets"
-        " shorter",
+        "nets and their lengths. `_nets` reads pins and nets and finds the cells of pins, `_length` measures,"
+        " `_density` counts pins in bins, and `_targets` says where cells without a place are near their nets",
     ),
-    "improvements": Group("lf_improve_*", "the search for shorter wires"),
+    "improvements": Group(
+        "lf_improve_*",
+        "shorter wires. `_strategy` looks for moves that make nets shorter, and `_team` sends them to a floor",
+    ),
     "io": Group(
         "lf_io",
         "outputs, which take a text; devices, which give and take bytes; and files, which are replaced as a whole",
@@ -97,8 +104,9 @@ GROUPS = {
     "tasks": Group(
         "lf_task_* lf_app lefence",
         "tasks over files. `_faults` prints faults, `_designs` opens designs, `_files` has `check`, `describe` and what"
-        " the other tasks share, and `_run` runs a work on a floor. `lf_app` selects the task, and `lefence` is the"
-        " program",
+        " the other tasks share, `_reports` makes the reports of wire lengths, repairs and improvements, and `_run`"
+        " runs a work on a floor. `_wires`, `_serve`, `_repair` and `_improve` are the other tasks. `lf_app` selects"
+        " the task, and `lefence` is the program",
     ),
     "tests": Group("lf_tests_* lefence_rows lefence_bench", "tests in code, worked rows, and the bench of loading"),
 }
@@ -202,14 +210,9 @@ RULES = (
     Rule(
         "state",
         Kind.INDEPENDENT,
-        "readers loading devices files lf_floor lf_floor_verbs",
-        "`lf_floor` saves and restores by these crates, so it is below.",
-    ),
-    Rule(
-        "lf_state_text",
-        Kind.INDEPENDENT,
-        "lf_cells lf_placement",
-        "The text is read and written by the names of a design (`DesignSchema`), without its tables.",
+        "readers loading devices files lf_floor lf_floor_verbs lf_cells lf_placement",
+        "The text is read and written by the names of a design (`DesignSchema`), without its tables. `lf_floor` saves"
+        " and restores by this crate, so the crate is below it.",
     ),
     Rule("laws", Kind.INDEPENDENT, "files tasks repairs", "The laws are on what the tasks are built of."),
     Rule(
@@ -252,13 +255,7 @@ RULES = (
         "lf_improve_strategy",
         Kind.INDEPENDENT,
         "floor lf_proto",
-        "A plan is made of places. It knows neither a floor nor a request.",
-    ),
-    Rule(
-        "improvements -lf_improve_team",
-        Kind.UNNAMED,
-        "lf_floor",
-        "Only `lf_improve_team` has a floor run commands.",
+        "A plan is made of places. Only `lf_improve_team` has a floor run commands.",
     ),
     Rule(
         "wires",

@@ -11,7 +11,7 @@
 //! `pin_density_of` returns the mean number of pins of the fullest 2, 5, 10 and 20 % of all bins. A
 //! pin is a point here, and the bins with the most points are the fullest.
 //!
-//! Used by `lf_describe`, `lf_task_reports` and `lf_wire_density`.
+//! Used by `lf_describe`, `lf_wire_density`, `lf_task_reports`, `lf_task_repair` and `lf_task_improve`.
 //!
 //! Modules, in reading order:
 //!

@@ -21,7 +21,7 @@
 //!
 //! ```
 //! let name = name_value(alloc, team)?;
-//! team_value(alloc, name, left, gaps, least, repaired)
+//! let line = team_value(alloc, name, left, gaps, least, repaired)?;
 //! ```
 #![tactic(auto)]
 

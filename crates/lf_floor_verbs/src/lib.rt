@@ -29,7 +29,7 @@
 //! From `crates/lf_floor/src/floor.rt`:
 //!
 //! ```
-//! tables.run_command(&around, order)
+//! tables.run_command(&context, command)
 //! ```
 #![tactic(auto)]
 

@@ -31,7 +31,9 @@
 //!
 //! ```
 //! let mut core = Core::new(rt.alloc(), 2)?;
-//! let slot = core.opens(0, Access::Changes)?;
+//! let mut floor = Counter { count: 0 };
+//! let mut slots = Vec::new(rt.alloc());
+//! let first = core.opens(0, Access::Changes)?;
 //! ```
 #![tactic(auto)]
 

@@ -5,20 +5,20 @@ ghost use Rattle.lf_wire_length.specs.Bounds.{IsPinOffset};
 
 use crate::movable::MovableCells;
 use crate::nets_on_board::{BoardNets, BoardPin, BoardPoint, OrientedOffsets};
-use lf_cells::CellId;
 use lf_floorplan::Place;
 use lf_orient::Orient;
 use lf_placement::Placement;
 use lf_wire_length::{HalfPoint, Netlist, PinOffset, PinRow, point_of_cell_pin};
 use std::alloc::{AllocError, Global};
 
-/// What the nets of a team refer to: the placement, the netlist, the number of the team, and its
-/// cells that may move.
+/// What the nets of a team refer to: the placement, the netlist, the number of the team, the new
+/// places of its cells, and those that may still move.
 #[derive(Clone, Copy)]
 pub(crate) struct NetSource<'a> {
     pub(crate) placement: &'a Placement,
     pub(crate) netlist: &'a Netlist,
     pub(crate) team: usize,
+    pub(crate) moved: &'a [Option<Place>],
     pub(crate) movable: &'a MovableCells,
 }
 
@@ -59,26 +59,24 @@ fn push_all_offsets(netlist: &Netlist, nets: &mut BoardNets) -> Result<(), Alloc
     Ok(())
 }
 
-/// Whether the cell is of the team with this number.
-fn is_of_team(id: CellId, team: usize) -> bool {
-    id.team as usize == team
-}
-
 /// The pin in this row of the cell of this number: it moves with its cell if the cell may move,
 /// otherwise it is where the cell is. `None` if the cell is unplaced, or there is none.
 fn pin_of_cell(source: &NetSource<'_>, cell: u32, row: u32) -> Option<BoardPin> {
     let cells = source.placement.cells();
     let id = *cells.cell_ids().get(cell as usize)?;
-    if is_of_team(id, source.team) {
+    let mut place = cells.working(id)?;
+    if id.team as usize == source.team {
         if let Some(position) = source.movable.position_of(id.own) {
             return Some(BoardPin::OfCell {
                 cell: position,
                 offsets: row,
             });
         }
+        if let Some(Some(moved)) = source.moved.get(id.own as usize) {
+            place = *moved;
+        }
     }
     let offset = source.netlist.row(row)?;
-    let place = cells.working(id)?;
     Some(BoardPin::Fixed(board_point(&point_of_cell_pin(&place, &offset))))
 }
 

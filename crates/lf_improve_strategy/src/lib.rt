@@ -11,10 +11,11 @@
 //! `Wires` has no nets of more than 64 pins. Each net is measured by its pins alone: no box of a
 //! net is kept, since most pins are at an edge of it.
 //!
-//! `improvement_edits` reads a placement and a netlist. The cells of one row's height that are on
-//! free sites of the team may move. All other cells keep their places, and their sites are not
-//! free. The moves are ordered so that few cells are unplaced. Nothing relies on these edits: a
-//! floor tests each place that is requested of it.
+//! `improvement_edits` reads a placement and a netlist. Cells of several rows exchange places with
+//! others over as many rows and sites. Then the cells of one row's height that are on free sites of
+//! the team move. All other cells keep their places, and their sites are not free. The moves are
+//! ordered so that few cells are unplaced. Nothing relies on these edits: a floor tests each place
+//! that is requested of it.
 //!
 //! Used by `lf_improve_team`.
 //!
@@ -32,6 +33,7 @@
 //! - `target`: a cell for which a better place is looked for, and the runs in which it is tried
 //! - `scratch`: lists that the search of each cell uses again
 //! - `exchange`: a cell moves to free sites, or exchanges places with another one
+//! - `equal_cells`: two cells of several rows exchange places
 //! - `insertion`: a cell moves between two others, which make room
 //! - `flips`: a cell is mirrored at its place
 //! - `draws`: random numbers, the same on each run
@@ -45,7 +47,7 @@
 //! From `crates/lf_improve_team/src/team.rt`:
 //!
 //! ```
-//! improvement_edits(alloc, placement, &owner, wires, options, search)
+//! improvement_edits(alloc, placement, &team, attempt.wires, options, attempt.search)
 //! ```
 #![tactic(auto)]
 
@@ -57,6 +59,7 @@ mod cells;
 mod change;
 mod density;
 mod draws;
+mod equal_cells;
 mod exchange;
 mod flips;
 mod improvement;

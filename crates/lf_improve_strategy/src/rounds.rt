@@ -6,6 +6,7 @@ use crate::annealing::anneal;
 use crate::bins::Bins;
 use crate::board::Board;
 use crate::cells::{CellPlace, ImprovableCell};
+use crate::equal_cells::exchange_equal;
 use crate::exchange::exchange;
 use crate::flips::flip;
 use crate::insertion::insert;
@@ -84,15 +85,44 @@ pub(crate) struct RoundLists {
     pub(crate) scratch: Scratch,
 }
 
-/// Tries an exchange of each cell, then an insertion of each, and then a flip of each.
-fn round(board: &mut Board, wires: &mut Wires, lists: &mut RoundLists) -> Result<(), AllocError> {
-    sort_cells(board, &mut lists.keys)?;
-    for key in &lists.keys {
-        exchange(board, wires, key.cell, &mut lists.scratch)?;
+impl RoundLists {
+    /// Empty lists, which allocates nothing.
+    fn new(alloc: Global) -> RoundLists {
+        RoundLists {
+            keys: Vec::new(alloc),
+            scratch: Scratch::new(alloc),
+        }
     }
+}
+
+/// Which cells are on a board.
+#[derive(Clone, Copy)]
+enum CellsOnBoard {
+    /// Cells of one row's height, on free sites.
+    Low,
+    /// Cells of several rows, each on a run of its own.
+    Tall,
+}
+
+/// Tries an exchange of each cell, then an insertion of each low one, and then a flip of each.
+fn round(
+    board: &mut Board,
+    wires: &mut Wires,
+    on_board: CellsOnBoard,
+    lists: &mut RoundLists,
+) -> Result<(), AllocError> {
     sort_cells(board, &mut lists.keys)?;
     for key in &lists.keys {
-        insert(board, wires, key.cell, &mut lists.scratch)?;
+        match on_board {
+            CellsOnBoard::Low => exchange(board, wires, key.cell, &mut lists.scratch)?,
+            CellsOnBoard::Tall => exchange_equal(board, wires, key.cell, &mut lists.scratch)?,
+        }
+    }
+    if matches!(on_board, CellsOnBoard::Low) {
+        sort_cells(board, &mut lists.keys)?;
+        for key in &lists.keys {
+            insert(board, wires, key.cell, &mut lists.scratch)?;
+        }
     }
     for cell in 0..board.count() {
         flip(board, wires, cell, 0)?;
@@ -104,12 +134,13 @@ fn round(board: &mut Board, wires: &mut Wires, lists: &mut RoundLists) -> Result
 fn improve(
     board: &mut Board,
     wires: &mut Wires,
+    on_board: CellsOnBoard,
     rounds: u32,
     lists: &mut RoundLists,
 ) -> Result<(), AllocError> {
     for _ in 0..rounds {
         let before = wires.length();
-        round(board, wires, lists)?;
+        round(board, wires, on_board, lists)?;
         let gain = before.saturating_sub(wires.length());
         if gain.saturating_mul(PARTS) <= before {
             break;
@@ -146,11 +177,9 @@ pub fn improved_places(
 ) -> Result<Vec<Option<CellPlace>>, AllocError> {
     let mut board = Board::new(alloc, free_rows, cells, options.within, bins)?;
     let mut wires = Wires::new(alloc, nets, &board)?;
-    let mut lists = RoundLists {
-        keys: Vec::new(alloc),
-        scratch: Scratch::new(alloc),
-    };
-    improve(&mut board, &mut wires, options.rounds, &mut lists)?;
+    let mut lists = RoundLists::new(alloc);
+    let low = CellsOnBoard::Low;
+    improve(&mut board, &mut wires, low, options.rounds, &mut lists)?;
     let places = changed_places(alloc, &board)?;
     if search.moves == 0 {
         return Ok(places);
@@ -162,4 +191,23 @@ pub fn improved_places(
     } else {
         Ok(places)
     }
+}
+
+/// Shortens the nets of cells of several rows by flips, and by exchanges of two cells that take the
+/// same number of sites. Returns the new place of each cell. `None` if it keeps its place.
+///
+/// `footprints` has a span for each cell. `Err` if an allocation fails.
+pub(crate) fn exchanged_places(
+    alloc: Global,
+    footprints: &FreeRows,
+    cells: &[ImprovableCell],
+    nets: &BoardNets,
+    options: &ImproveOptions,
+) -> Result<Vec<Option<CellPlace>>, AllocError> {
+    let mut board = Board::new(alloc, footprints, cells, options.within, None)?;
+    let mut wires = Wires::new(alloc, nets, &board)?;
+    let mut lists = RoundLists::new(alloc);
+    let tall = CellsOnBoard::Tall;
+    improve(&mut board, &mut wires, tall, options.rounds, &mut lists)?;
+    changed_places(alloc, &board)
 }

@@ -17,11 +17,11 @@
 //! From `crates/lf_task_improve/src/improving.rt`:
 //!
 //! ```
-//! let wish = ImproveWish {
+//! let goal = ImproveGoal {
 //!     options: plan.options,
 //!     length,
 //! };
-//! match improve_team(alloc, floor, name, &plan.wires, &wish, &plan.search, lines) {
+//! match improve_team(alloc, floor, name, &plan.wires, &goal, &plan.search, lines) {
 //!     Ok(done) => Ok(done),
 //!     Err(_) => Err(Fault::SetupOutOfMemory),
 //! }
@@ -36,4 +36,4 @@ pub use cells_on_floor::CellsOnFloor;
 pub use laws::{wire_length_is_one, working_places_are_one};
 pub use lf_improve_strategy::{ImproveOptions, ImproveSearch, TeamNets, WireNets};
 pub use lf_repair_team::RepairFault;
-pub use team::{ImproveWish, TeamImprovement, improve_team};
+pub use team::{ImproveGoal, TeamImprovement, improve_team};

@@ -31,7 +31,7 @@ use std::alloc::{AllocError, Global};
 /// What is wanted of an improvement: its options, whose distance is in database units, and the wire
 /// length of the design before it, in half database units.
 #[derive(Clone, Copy)]
-pub struct ImproveWish {
+pub struct ImproveGoal {
     pub options: ImproveOptions,
     pub length: u64,
 }
@@ -58,7 +58,7 @@ pub struct TeamImprovement {
 struct Attempt<'a> {
     input: &'a RepairInput,
     wires: &'a WireNets<'a>,
-    goal: &'a ImproveWish,
+    goal: &'a ImproveGoal,
     search: &'a ImproveSearch,
     /// The length of the team's nets at its start, in half database units.
     part: u64,
@@ -403,7 +403,7 @@ fn result_of<S: Seeker + Drop>(
 ///
 /// The team is skipped if one of its cells is unplaced or breaks a rule, or if a working place is
 /// not committed; then no command is sent. It is improved only if the wire length of the whole
-/// design is then shorter, no cell of the team is farther from where it was than the wish allows, and
+/// design is then shorter, no cell of the team is farther from where it was than the options allow, and
 /// each cell that is elsewhere is off soft blockages; then all its cells are legal and committed. Otherwise its working and committed places
 /// are as before, and so is the wire length.
 ///
@@ -419,7 +419,7 @@ pub fn improve_team<S: Seeker + Drop, K: Sink>(
     floor: &mut Floor<S>,
     team: &[u8],
     wires: &WireNets<'_>,
-    goal: &ImproveWish,
+    goal: &ImproveGoal,
     search: &ImproveSearch,
     lines: &mut K,
 ) -> Result<TeamImprovement, RepairFault>

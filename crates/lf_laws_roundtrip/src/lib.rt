@@ -12,7 +12,7 @@
 //! - the divider and the brackets are quoted texts with their marks
 //! - no group is bound to a region named by a parenthesis
 //!
-//! Used by `lf_task_serve`, `lf_task_repair` and `lf_task_improve`.
+//! Used by `lf_task_run` and `lf_task_serve`.
 //!
 //! Modules, in reading order:
 //!

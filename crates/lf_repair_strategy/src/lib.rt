@@ -29,8 +29,8 @@
 //!
 //! ```
 //! let placement = floor.placement();
-//! let owner = PaddedTeam::new(placement.frame(), number, floor.padding_of(number));
-//! edits_for(alloc, placement, &owner, pass, phase, search)
+//! let team = PaddedTeam::new(placement.frame(), number, floor.padding_of(number));
+//! edits_for(alloc, placement, &team, pass, phase, search)
 //! ```
 #![tactic(auto)]
 

@@ -286,11 +286,11 @@ fn is_near(place: &Place, wanted: &Point, near: &NearRegion) -> bool {
     let Some(tiles) = &near.tiles else {
         return true;
     };
-    let is_in_place = Point {
+    let corner = Point {
         x: place.x as i64,
         y: place.y as i64,
     };
-    is_among(tiles.as_slice(), &tile_of(&is_in_place, &near.size))
+    is_among(tiles.as_slice(), &tile_of(&corner, &near.size))
         || is_among(tiles.as_slice(), &tile_of(wanted, &near.size))
 }
 

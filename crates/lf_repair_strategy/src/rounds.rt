@@ -292,14 +292,9 @@ pub fn fits_on(frame: &Frame, mac: &Macro, orient: Orient, row: Orient) -> bool 
 
 /// The orientation of a cell on a row of this orientation: its own if allowed, otherwise the first
 /// allowed one of N, S, FN and FS.
-pub(crate) fn orient_on(
-    frame: &Frame,
-    mac: &Macro,
-    wanted_place: Orient,
-    row: Orient,
-) -> Option<Orient> {
-    if fits_on(frame, mac, wanted_place, row) {
-        return Some(wanted_place);
+pub(crate) fn orient_on(frame: &Frame, mac: &Macro, wanted: Orient, row: Orient) -> Option<Orient> {
+    if fits_on(frame, mac, wanted, row) {
+        return Some(wanted);
     }
     for orient in [Orient::N, Orient::S, Orient::FN, Orient::FS] {
         if fits_on(frame, mac, orient, row) {

@@ -8,7 +8,7 @@
 //! the cells of one row's height. Other cells, and those whose place is refused, on a soft blockage
 //! or beyond reach, move to their best places.
 //!
-//! Used by `lf_improve_team`, `lf_task_repair` and `lf_task_improve`.
+//! Used by `lf_improve_team`, `lf_task_run`, `lf_task_repair` and `lf_task_improve`.
 //!
 //! Modules, in reading order:
 //!
@@ -30,7 +30,7 @@
 //!
 //! ```
 //! let mut lines = ToWrite::new(writer);
-//! repair_team(alloc, floor, b"A", how, &search, &[], &mut lines)
+//! repair_team(alloc, floor, b"A", policy, &search, &[], &mut lines)
 //! ```
 #![tactic(auto)]
 

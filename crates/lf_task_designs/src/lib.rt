@@ -6,8 +6,7 @@
 //! through the trait `InputFiles`. Contracts know nothing of the files of a runtime
 //! (`FsInputFiles`). Faults are those of `lf_task_faults`.
 //!
-//! Used by `lf_task_files`, `lf_task_wires`, `lf_task_serve`, `lf_task_repair`, `lf_task_improve`
-//! and `lf_app`.
+//! Used by `lf_app` and the crates `lf_task_*`.
 //!
 //! Modules, in reading order:
 //!

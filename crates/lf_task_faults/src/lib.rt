@@ -19,9 +19,9 @@
 //! From `crates/lf_app/src/tasks.rt`:
 //!
 //! ```
-//! match outcome(alloc, around, task) {
+//! match outcome(alloc, environment, task) {
 //!     Ok(status) => exit_with(status),
-//!     Err(fault) => report_fault(&mut around.faults, &fault),
+//!     Err(fault) => report_fault(&mut environment.faults, &fault),
 //! }
 //! ```
 #![tactic(auto)]

@@ -32,9 +32,9 @@
 //! From `crates/lf_task_serve/src/serve_task.rt`:
 //!
 //! ```
-//! check_outputs(outputs, &mut around.exports)?;
-//! serve_source(alloc, around, floor, lines)?;
-//! write_outputs(floor, original, outputs, &mut around.exports)?;
+//! check_outputs(outputs, &mut environment.exports)?;
+//! serve_source(alloc, environment, floor, lines)?;
+//! write_outputs(floor, original, outputs, &mut environment.exports)?;
 //! Ok(0)
 //! ```
 #![tactic(auto)]

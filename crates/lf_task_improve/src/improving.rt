@@ -18,7 +18,7 @@ use lf_density::PinDensity;
 use lf_floor::{Floor, team_name};
 use lf_floorplan::Frame;
 use lf_improve_team::{
-    CellsOnFloor, ImproveOptions, ImproveSearch, ImproveWish, TeamImprovement, WireNets,
+    CellsOnFloor, ImproveGoal, ImproveOptions, ImproveSearch, TeamImprovement, WireNets,
     improve_team, wire_length_is_one,
 };
 use lf_legalize::IndexSeeker;
@@ -84,7 +84,7 @@ fn improve_named<'f, P: Progress>(
     ensures longer { IfOk result (λ done. done.length ≤ length) }
     ensures err { IfErr result (λ fault. fault ≡ SetupOutOfMemory) }
 {
-    let goal = ImproveWish {
+    let goal = ImproveGoal {
         options: plan.options,
         length,
     };

@@ -17,10 +17,10 @@
 //!
 //! ```
 //! let work = improvement_of(*within, *options);
-//! let exports = &mut around.exports;
-//! let writer = &mut around.writer;
-//! let progress = &mut around.progress;
-//! run_task(alloc, &around.texts, exports, writer, progress, &job, &work)
+//! let exports = &mut environment.exports;
+//! let writer = &mut environment.writer;
+//! let progress = &mut environment.progress;
+//! run_task(alloc, &environment.texts, exports, writer, progress, &job, &work)
 //! ```
 #![tactic(auto)]
 

@@ -27,7 +27,7 @@
 //! - `length_json`: the lines as JSON
 //! - `length_report`: the whole report
 //!
-//! From `crates/lf_task_repair/src/repair_task.rt`:
+//! From `crates/lf_task_repair/src/repairing.rt`:
 //!
 //! ```
 //! let legal = is_committed_legal(alloc, floor)?;

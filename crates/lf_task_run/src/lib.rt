@@ -19,7 +19,7 @@
 //! From `crates/lf_app/src/tasks.rt`:
 //!
 //! ```
-//! run_task(alloc, &around.texts, exports, writer, progress, &job, &work)
+//! run_task(alloc, &environment.texts, exports, writer, progress, &job, &work)
 //! ```
 #![tactic(auto)]
 

@@ -21,7 +21,7 @@
 //!
 //! ```
 //! let lines = LineSource::Reader { max_lines: *lines };
-//! serve_files(alloc, around, inputs, lines, outputs_of(task))
+//! serve_files(alloc, environment, inputs, lines, outputs_of(task))
 //! ```
 #![tactic(auto)]
 

@@ -17,7 +17,7 @@
 //! From `crates/lf_app/src/tasks.rt`:
 //!
 //! ```
-//! Task::Wirelength { .. } => wirelength(alloc, &around.texts, inputs, &mut around.writer),
+//! Task::Wirelength { .. } => wirelength(alloc, &environment.texts, inputs, &mut environment.writer),
 //! ```
 #![tactic(auto)]
 

@@ -18,10 +18,10 @@
 //!
 //! ```
 //! let text = team_def(
-//!     around.alloc,
+//!     context.alloc,
 //!     self.placement.frame(),
 //!     self.placement.cells(),
-//!     around.number,
+//!     context.number,
 //! )?;
 //! ```
 #![tactic(auto)]

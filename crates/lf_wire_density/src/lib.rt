@@ -8,7 +8,7 @@
 //! Pins of the design and of FIXED components do not count. No command moves them, and a netlist does
 //! not tell one from the other.
 //!
-//! Used by `lf_task_reports` and `lf_task_improve`.
+//! Used by `lf_task_improve`.
 //!
 //! Modules, in reading order:
 //!

@@ -15,10 +15,10 @@
 //! - `sides`: the sides of the boxes around the other pins of a cell's nets
 //! - `targets`: the targets of all teams
 //!
-//! From `crates/lf_task_repair/src/repair_task.rt`:
+//! From `crates/lf_task_repair/src/opening.rt`:
 //!
 //! ```
-//! let targets = TeamTargets::near_nets(alloc, &netlist, begin.floor.placement().cells())?;
+//! let targets = TeamTargets::near_nets(alloc, &netlist, floor.placement().cells())?;
 //! ```
 #![tactic(auto)]
 

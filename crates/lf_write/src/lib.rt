@@ -16,8 +16,8 @@
 //!
 //! `team_def` of `lf_team_def` can be named from here too.
 //!
-//! Used by `lf_laws_roundtrip`, `lf_task_designs`, `lf_task_files`, `lf_task_serve`,
-//! `lf_task_repair` and `lf_task_improve`.
+//! Used by `lf_laws_roundtrip`, `lf_task_designs`, `lf_task_files`, `lf_task_wires`, `lf_task_run` and
+//! `lf_task_serve`.
 //!
 //! Modules, in reading order:
 //!

@@ -95,7 +95,7 @@ class Netlist:
         return self.macros.get(self.macro_names.get(component, b""))
 
     def points(self, pin: Pin) -> list[Point]:
-        """Returns the points of a pin: one for each placed port of a pin of the design, and one for a pin of a component.
+        """Returns the points of a pin: one for each placed port of a pin of the design, and one for that of a cell.
 
         The list is empty if the pin does not count: something is missing, or has no place.
         """
