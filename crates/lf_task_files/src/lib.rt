@@ -10,8 +10,7 @@
 //! Functions that are a whole task return the exit status: 0, or 4 if the design is not fully
 //! legal. Otherwise they return the fault, which is not printed here.
 //!
-//! Used by `lf_task_wires`, `lf_task_run`, `lf_task_serve`, `lf_task_repair`, `lf_task_improve`,
-//! `lf_task_gather`, `lf_task_slice` and `lf_app`.
+//! Used by `lf_app` and the crates `lf_task_*` of tasks.
 //!
 //! Modules, in reading order:
 //!

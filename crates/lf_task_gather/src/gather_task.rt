@@ -141,7 +141,10 @@ pub fn gather_files<'a, T: InputFiles, E: OutputFiles>(
         ≡ None → exports.new ≡ exports.old }
 {
     let DesignInput {
-        def, lefs, limits, ..
+        def,
+        lefs,
+        limits,
+        ..
     } = inputs;
     let is_text_kept = outputs.export.is_some();
     let design = open_design(alloc, limits, texts, def, lefs, is_text_kept)?;

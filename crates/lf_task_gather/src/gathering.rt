@@ -55,12 +55,7 @@ fn add_state<'a, T: InputFiles>(
 {
     let others = rows_of_file(alloc, texts, floor, path)?;
     match first_difference(rows.as_slice(), others.as_slice()) {
-        Some(number) => Err(team_fault(
-            alloc,
-            floor.placement().frame(),
-            path,
-            number,
-        )),
+        Some(number) => Err(team_fault(alloc, floor.placement().frame(), path, number)),
         None => {
             gather_rows(rows, others);
             Ok(())

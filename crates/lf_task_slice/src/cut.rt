@@ -26,11 +26,7 @@ fn leave_out(keeps: &mut [bool], at: usize) {
 
 /// Returns for each component whether it is in the slice of the team of that number: each is that is
 /// no cell of another team. Components after the last cell are not in the list.
-fn kept_components(
-    alloc: Global,
-    loaded: &Loaded,
-    number: usize,
-) -> Result<Vec<bool>, AllocError> {
+fn kept_components(alloc: Global, loaded: &Loaded, number: usize) -> Result<Vec<bool>, AllocError> {
     let cells = &loaded.cells;
     let count = match cells.get(cells.len().saturating_sub(1)) {
         Some(last) => last.component.saturating_add(1),
@@ -59,12 +55,7 @@ fn fence_of(frame: &Frame, number: usize) -> Option<&[u8]> {
 }
 
 /// Cuts the slice of the team of that number out of the text of the design.
-fn cut<'a>(
-    alloc: Global,
-    text: &[u8],
-    whole: &Loaded,
-    number: usize,
-) -> Result<Vec<u8>, Fault<'a>>
+fn cut<'a>(alloc: Global, text: &[u8], whole: &Loaded, number: usize) -> Result<Vec<u8>, Fault<'a>>
     ensures { IfErr result (λ fault. (fault ≡ SetupOutOfMemory) ⊎ (fault ≡ SliceDiffers)) }
 {
     let keeps = kept_components(alloc, whole, number)?;
@@ -168,13 +159,6 @@ pub(crate) fn slice_of<'a>(
     ensures err { IfErr result (λ fault. (fault ≡ SetupOutOfMemory) ⊎ (fault ≡ SliceDiffers)) }
 {
     let slice = cut(alloc, text, whole, number)?;
-    check_part(
-        alloc,
-        limits,
-        library,
-        whole,
-        number,
-        slice.as_slice(),
-    )?;
+    check_part(alloc, limits, library, whole, number, slice.as_slice())?;
     Ok(slice)
 }

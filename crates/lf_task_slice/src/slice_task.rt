@@ -175,7 +175,10 @@ pub fn slice_files<'a, T: InputFiles, E: OutputFiles>(
     ensures unput { OnErr result (E.puts exports.new ≡ E.puts exports.old) }
 {
     let DesignInput {
-        def, lefs, limits, ..
+        def,
+        lefs,
+        limits,
+        ..
     } = inputs;
     let wish = SliceWish {
         team,
