@@ -45,15 +45,15 @@ last_first (first ∷ firsts) (o ∷ others) second d within =
     ap (λ (rest : List SavedTeam). gathered_team first o ∷ rest) (last_first firsts others second d (omega (arith, within)))
 
 -- a row that is gathered leaves the rest to be gathered
-pub one_gathered : (firsts rest left : List SavedTeamRow) (second old new : SavedTeamRow) (k : ℕ) → k ≡ length rest → length rest < length firsts
-    → left ≡ rest ++ second ∷ [] → old ≡ get_or firsts k old → team_view new ≡ gathered_team (team_view old) (team_view second)
+pub one_gathered : (firsts rest left : List SavedTeamRow) (second d new : SavedTeamRow) (k : ℕ) → k ≡ length rest → length rest < length firsts
+    → left ≡ rest ++ second ∷ [] → team_view new ≡ gathered_team (team_view (get_or firsts k d)) (team_view second)
     → gathered_teams (team_views (slice_set firsts k new)) (team_views rest) ≡ gathered_teams (team_views firsts) (team_views left)
-one_gathered firsts rest left second old new k at within is there_is made =
+one_gathered firsts rest left second d new k at within is made =
     let many = views_many rest in
     let few : length (team_views rest) < length (team_views firsts) = omega (arith, within, many, views_many firsts) in
     let here : k ≡ length (team_views rest) = at ∙ sym many in
-    let found : team_view old ≡ get_or (team_views firsts) k (team_view old) = ap team_view there_is ∙ sym (get_or-map team_view firsts k old (team_view old) (omega (arith, at, within))) in
+    let found : team_view (get_or firsts k d) ≡ get_or (team_views firsts) k (team_view d) = sym (get_or-map team_view firsts k d (team_view d) (omega (arith, at, within))) in
     ap (λ (ts : List SavedTeam). gathered_teams ts (team_views rest)) (map-set team_view firsts k new ∙ ap (slice_set (team_views firsts) k) (made ∙ ap (λ (t : SavedTeam). gathered_team t (team_view second)) found))
-    ∙ ap (λ n. gathered_teams (slice_set (team_views firsts) n (gathered_team (get_or (team_views firsts) n (team_view old)) (team_view second))) (team_views rest)) here
-    ∙ last_first (team_views firsts) (team_views rest) (team_view second) (team_view old) few
+    ∙ ap (λ n. gathered_teams (slice_set (team_views firsts) n (gathered_team (get_or (team_views firsts) n (team_view d)) (team_view second))) (team_views rest)) here
+    ∙ last_first (team_views firsts) (team_views rest) (team_view second) (team_view d) few
     ∙ ap (gathered_teams (team_views firsts)) (sym (ap team_views is ∙ map-append team_view rest (second ∷ [])))

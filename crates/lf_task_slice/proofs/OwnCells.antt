@@ -1,8 +1,8 @@
 -- The cells of a team, one by one.
-use Rattle.std.proofs.Common.{◌≡◌, ◌≢◌, ◌∙◌, ◌+◌, ◌<◌, ◌==◌, ℕ, Bool, true, false, List, [], ◌∷◌, ◌++◌, Some, length, map, take, refl, ap, ap₂, sym, subst, cond, append-nil}
+use Rattle.std.proofs.Common.{◌≡◌, ◌∙◌, ◌+◌, ◌<◌, ◌≤◌, ◌==◌, ℕ, Bool, true, false, List, [], ◌∷◌, ◌++◌, Some, length, map, take, refl, ap, ap₂, sym, subst, cond, append-nil}
 use Rattle.std.specs.Prelude.{All, filter, slice_get}
 use Rattle.std.proofs.lemmas.Bool.Decides.{Decides-eqb}
-use Rattle.std.proofs.lemmas.List.{map-append, take_more}
+use Rattle.std.proofs.lemmas.List.{map-append, take_all, take_more}
 use Rattle.std.proofs.lemmas.List.Elements.{All-append, All-cons, All-nil, filter-append}
 use Rattle.std.proofs.lemmas.Option.{get_or_from_slice_get, slice_get_within}
 use Rattle.lf_floorplan.specs.declared.loaded.LoadedCell.{LoadedCell}
@@ -56,4 +56,12 @@ other_more number whole part at own cell so_far there other = record {
       ap (own_cells number) (one_more whole at cell there) ∙ own_append number (take at whole) (cell ∷ [])
       ∙ ap (λ (x : List Cell). own_cells number (take at whole) ++ x) (not_own number cell other) ∙ append-nil (own_cells number (take at whole)) ∙ so_far.same;
   alone = so_far.alone;
+}
+
+-- all cells
+pub all_own : (number : ℕ) (whole part : List LoadedCell) (at own : ℕ) → AreOwnSoFar number whole part at own → length whole ≤ at → length part ≤ own
+    → AreOwnCells number whole part
+all_own number whole part at own so_far end part_end = record {
+  own = sym (ap (own_cells number) (take_all at whole end)) ∙ so_far.same ∙ ap (own_cells number) (take_all own part part_end);
+  alone = subst (All (λ (c : LoadedCell). c.team ≡ number)) (take_all own part part_end) so_far.alone;
 }

@@ -1,6 +1,6 @@
 -- A text with the frame of a design and the cells of one team is a slice.
-use Rattle.std.proofs.Common.{◌≡◌, ◌∙◌, ◌++◌, ℕ, List, [], ◌∷◌, Some, Ok, ap, refl, subst, sym}
-use Rattle.std.specs.Prelude.{All, Contains, slice_get, unwrap_or, ◌↔◌}
+use Rattle.std.proofs.Common.{◌≡◌, ◌∙◌, ◌⊎◌, ℕ, List, [], ◌∷◌, Option, Some, Ok, ap, inl, inr, refl, subst, sym}
+use Rattle.std.specs.Prelude.{Contains, Err, OnOk, Result}
 use Rattle.std.specs.List.{AllZip}
 use Rattle.std.proofs.lemmas.List.Elements.{All-weaker}
 use Rattle.lf_units.specs.declared.geometry.Rect.{Rect}
@@ -9,11 +9,14 @@ use Rattle.lf_floorplan.specs.declared.frame.Frame.{Frame}
 use Rattle.lf_floorplan.specs.declared.limits.Limits.{Limits}
 use Rattle.lf_floorplan.specs.declared.loaded.Loaded.{Loaded}
 use Rattle.lf_floorplan.specs.declared.loaded.LoadedCell.{LoadedCell}
-use Rattle.lf_floorplan.specs.declared.macros.Macro.{Macro}
 use Rattle.lf_floorplan.specs.Boxes.{macro_of}
 use Rattle.lf_cells.specs.declared.cell.Cell.{Cell}
 use Rattle.lf_cells.specs.Initial.{own_cells}
 use Rattle.lf_floor_model.specs.Teams.{team_number}
+use Rattle.lf_io.specs.Shelf.{Put, PutsFile}
+use Rattle.lf_task_faults.specs.declared.faults.Fault.{Fault}
+use Rattle.lf_task_faults.specs.declared.faults.Fault.TheVariants.{SetupOutOfMemory, SliceDiffers}
+use Rattle.lf_task_faults.specs.Faults.{IsEarly}
 use Rattle.lf_laws_slices.specs.Alike.{AreCellsAlike, AreSameRects}
 use Rattle.lf_task_designs.specs.Designs.{IsDesignIn}
 use Rattle.lf_task_slice.specs.Slices.{IsPartOf, IsSliceOf}
@@ -58,3 +61,18 @@ is_slice limits library team text slice number whole loads named is =
       alone = All-weaker (λ (c : LoadedCell). c.team ≡ number) (λ (c : LoadedCell). team_number f team ≡ Some c.team)
           (λ c own. named ∙ ap Some (sym own)) is.part.cells is.cells.alone;
     }
+
+-- ---- results
+
+pub on_ok : (r : Result ℕ Fault) (P Q : Type 0) → OnOk r P → (P → Q) → OnOk r Q
+on_ok (Ok status) P Q is gives = gives is
+on_ok (Err fault) P Q is gives = tt
+
+-- a text that is not a slice is found before anything is written
+pub unsliced_early : (fault : Fault) → (fault ≡ SetupOutOfMemory) ⊎ (fault ≡ SliceDiffers) → IsEarly fault
+unsliced_early fault (inl memory) = subst IsEarly (sym memory) tt
+unsliced_early fault (inr differs) = subst IsEarly (sym differs) tt
+
+-- what is written after the path was tried
+pub put_on : (old tried new : Option (List Put)) (path text : List ℕ) → tried ≡ old → PutsFile tried new path text → PutsFile old new path text
+put_on old tried new path text same put = subst (λ (puts : Option (List Put)). PutsFile puts new path text) same put

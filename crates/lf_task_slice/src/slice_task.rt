@@ -3,6 +3,7 @@
 ghost use Rattle.std.specs.Prelude.{◌≡◌, ◌∷◌, [], Some, bytes_eq, IfErr, IfOk, OnErr, OnOk, map, position};
 ghost use Rattle.lf_floorplan.specs.Fences.{ground_name};
 ghost use Rattle.lf_floor_model.specs.Teams.{team_number};
+ghost use Rattle.lf_task_designs.specs.Designs.{IsDesignIn};
 ghost use Rattle.lf_task_run.specs.Teams.{IsUnknown};
 ghost use Rattle.lf_task_slice.specs.Slices.{BlamesFiles, IsSliceFault, IsSliceInText, IsSliceOfFile, IsSlicedDesign, IsSliceWritten, IsUnsliced, IsUnslicedFile, IsUnslicedText};
 
@@ -94,6 +95,7 @@ fn put_slice<'a, E: OutputFiles>(
     wish: SliceWish<'a>,
     exports: &mut E,
 ) -> Result<u8, Fault<'a>>
+    requires loads { IsDesignIn wish.limits library.now text.now loaded.now }
     ensures status { IfOk result (λ status. status ≡ 0) }
     ensures ok { OnOk result (IsSlicedDesign wish.entry.limits library.now wish.entry.team.now wish.entry.output.now
         loaded.now (E.puts exports.old) (E.puts exports.new)) }

@@ -16,7 +16,7 @@ loop-left-preserved c =
     record {
       same =
           one_gathered firsts rest c.loop-left.left.items c.in-Some.second c.index-firsts-number.result c.gather_team.new.first k at (omega (arith, few, more)) left
-          c.index-firsts-number.is c.gather_team.ensures
+          c.gather_team.ensures
           ∙ c.loop-left.invariant.same;
       few = omega (arith, few, more, length-set firsts k c.gather_team.new.first);
     }
