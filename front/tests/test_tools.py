@@ -6,7 +6,6 @@ import io
 import shutil
 import subprocess
 import sys
-import tempfile
 import unittest
 import venv
 from collections.abc import Callable
@@ -145,12 +144,9 @@ class Faults(unittest.TestCase):
             raise Fault(1, "a\x1b[2Jb\udcff\u202e\x9b é")
 
         self.assertEqual(self.output_of(fail), (1, "x: a\\x1b[2Jb\\udcff\\u202e\\x9b é\n"))
-        with tempfile.NamedTemporaryFile() as file:
-            file.write(b"DESIGN t ;\nEND DESIGN\n")
-            file.flush()
-            words = [*tool_words("lefence-fill"), file.name, file.name, "--output", "\x1b]0;/x"]
-            done = subprocess.run(words, capture_output=True)
-        self.assertEqual((done.returncode, b"\x1b" in done.stderr, b"\\x1b]0;" in done.stderr), (1, False, True))
+        words = [*tool_words("lefence-slice"), "x.def", "\x1b]0;", "--team", "A", "--program", PROGRAM]
+        done = subprocess.run(words, capture_output=True)
+        self.assertEqual((done.returncode, b"\x1b" in done.stderr, b"\\x1b]0;" in done.stderr), (3, False, True))
 
 
 class Package(FrontCase):

@@ -6,9 +6,7 @@
 //! line feed follows. The slice of a slice is that slice.
 //!
 //! The functions expect a text that `lf_def` reads. They make no promise about the text that they
-//! return. The caller reads it and compares its design with the whole one (`lf_task_slice`).
-//!
-//! Used by `lf_task_slice`.
+//! return. The caller reads it and compares its design with the whole one.
 //!
 //! Modules, in reading order:
 //!

@@ -4,8 +4,6 @@
 //! has the row of the states that have changed it; these must be the same. If no state has changed
 //! the team, it has the row of the first state.
 //!
-//! Used by `lf_task_gather`.
-//!
 //! Modules, in reading order:
 //!
 //! - `same_rows`: whether two rows are the same
