@@ -98,7 +98,7 @@ class Gathered(InFolder):
 
     def test_command_lines_that_are_refused(self) -> None:
         a = self.saved("a", A)
-        for words in (
+        commands: tuple[list[str], ...] = (
             [],
             ["--state"],
             ["--state", str(a), "--committed"],
@@ -107,7 +107,8 @@ class Gathered(InFolder):
             ["--state", str(a), "--save", DESIGN[1]],
             ["--state", str(a), "--save", "new", "--export", "new"],
             ["--state", str(a), "--sessions", "0"],
-        ):
+        )
+        for words in commands:
             with self.subTest(words):
                 status, written, said = run(["gather", *DESIGN, *words], start=Start(folder=self.folder))
                 self.assertEqual((status, written, said.split("\n")[0]), (2, "", "lefence: usage"))
