@@ -7,6 +7,7 @@ repair finds.
 from __future__ import annotations
 
 import json
+import os
 import re
 import subprocess
 import unittest
@@ -58,6 +59,25 @@ END COMPONENTS
 NETS 1 ;
 - n ( far A ) ( new A ) ;
 END NETS
+END DESIGN
+"""
+
+# Two rows that are far apart. The cells a, b and c overlap in the lower one, which has room for one of them.
+FAR_LEF = """VERSION 5.8 ;
+SITE core CLASS CORE ; SYMMETRY Y ; SIZE 0.2 BY 2.0 ; END core
+MACRO W3 CLASS CORE ; SIZE 0.6 BY 2.0 ; SYMMETRY X Y ; SITE core ; END W3
+END LIBRARY
+"""
+FAR_DEF = """VERSION 5.8 ;
+DESIGN w ;
+UNITS DISTANCE MICRONS 1000 ;
+ROW low core 0 0 N DO 5 BY 1 STEP 200 0 ;
+ROW high core 0 40000 N DO 6 BY 1 STEP 200 0 ;
+COMPONENTS 3 ;
+- a W3 + PLACED ( 0 0 ) N ;
+- b W3 + PLACED ( 200 0 ) N ;
+- c W3 + PLACED ( 0 0 ) N ;
+END COMPONENTS
 END DESIGN
 """
 
@@ -145,6 +165,29 @@ class Repairs(InFolder):
         begun = progress("A", 1, 0) + progress("B", 2, teams.count("A"))
         begun += progress("-", 3, teams.count("A") + teams.count("B"))
         self.assertEqual(slowly, (0, run(words)[1], begun))
+
+    def test_on_a_terminal_it_says_how_far_it_is_after_two_seconds(self) -> None:
+        self.text.write_text(design({}))
+        hastened = {**preloading("hasten.c", self.folder), "HASTEN": "2500"}
+        words = [str(PROGRAM), "repair", str(self.text), str(LEF)]
+        control, terminal = os.openpty()
+        with open(control, "rb", buffering=0) as screen:
+            ran = subprocess.run(words, stdout=subprocess.PIPE, stderr=terminal, env=hastened, timeout=PATIENCE)
+            os.close(terminal)
+            said = screen.read(1_000).decode().splitlines()
+        self.assertEqual((ran.returncode, [line.split(":")[1] for line in said]), (0, [
+            f' repairing "{team}", team {number} of 3' for number, team in enumerate(("A", "B", "-"), 1)
+        ]))
+        self.assertEqual(run(words[1:], start=Start(environment=hastened))[2], "")
+
+    def test_it_says_the_whole_name_of_a_team(self) -> None:
+        name = "team_of_a_long_name"
+        fence = "- A ( 0 0 ) ( 4000 4000 ) + TYPE FENCE ;"
+        changes = {fence: fence.replace("A", name), "- ga a* + REGION A ;": f"- ga a* + REGION {name} ;"}
+        self.text.write_text(design(changes))
+        hastened = {**preloading("hasten.c", self.folder), "HASTEN": "15000"}
+        said = run(["repair", str(self.text), str(LEF)], start=Start(environment=hastened))[2]
+        self.assertEqual(said.splitlines()[0], f'lefence: repairing "{name}", team 1 of 3: 0 commands so far')
 
     def test_one_of_a_large_team_says_how_far_it_is_every_ten_seconds(self) -> None:
         # The clock is read once in 1,024 commands. It is then 2.5 seconds later, or a little more if the test's
@@ -243,6 +286,22 @@ class Repairs(InFolder):
         status, report = self.repair(changes, "--keep")
         self.assertEqual((status, [line["left"] for line in report[:-1]]), (4, [["a2"], ["b1"], []]))
         self.assertEqual([line["gaps"] for line in report[:-1]], [[200], [400], []])
+
+    def test_gaps_are_near_the_working_places_of_a_state(self) -> None:
+        # In the state, the cells a and b are in the upper row, or unplaced after a commit there. With the padding only
+        # one of them fits there. Next to it two sites are free, and next to c, near the anchor of the team, one.
+        lef, state = self.folder / "far.lef", self.folder / "far.state"
+        lef.write_text(FAR_LEF)
+        self.text.write_text(FAR_DEF)
+        texts = [str(self.text), str(lef)]
+        places = "open -\nplace - 0 a 0 40000 N\nplace - 0 b 600 40000 N\n"
+        for more, gaps in ("", [400]), ("commit - 0\nunplace - 0 a\nunplace - 0 b\n", [200]):
+            with self.subTest(more):
+                done = run(["replay", *texts, "--save", str(state)], f"{places}{more}pad - 0 1\n")
+                self.assertEqual((done[0], done[2]), (0, ""))
+                _, written, _ = run(["repair", *texts, "--state", str(state)])
+                report = [json.loads(line) for line in written.splitlines()]
+                self.assertEqual((len(report[0]["left"]), report[0]["gaps"]), (1, gaps))
 
     def test_cells_without_a_place_get_one(self) -> None:
         status, report = self.repair({}, "--export", str(self.new))
@@ -389,6 +448,33 @@ class Repairs(InFolder):
             said = f"lefence: File\nlefence: {word} file {missing} cannot be written: there is no such folder\n"
             self.assertEqual(run(words), (3, "", said))
         self.assertEqual(self.names(), ["old.def"])
+
+    def test_the_first_of_the_files_that_cannot_be_written_is_reported(self) -> None:
+        self.text.write_text(design(PLACED_CELLS))
+        kinds = {"export": "export", "export-working": "working export", "lines": "lines", "save": "state"}
+        missing = {option: self.folder / "no" / option for option in kinds}
+        options = list(kinds)
+        for number, option in enumerate(options):
+            words = ["repair", str(self.text), str(LEF)]
+            for later in reversed(options[number:]):
+                words += [f"--{later}", str(missing[later])]
+            path = f"{kinds[option]} file {missing[option]}"
+            said = f"lefence: File\nlefence: {path} cannot be written: there is no such folder\n"
+            self.assertEqual(run(words), (3, "", said))
+
+    def test_places_of_any_team_that_are_not_committed_are_noted(self) -> None:
+        # b1 and b2 overlap, and the fence of B has room for one of them.
+        cell = "- b1 INV ;"
+        changes = {
+            **PLACED_CELLS,
+            cell: "- b1 INV + PLACED ( 6000 0 ) N ;\n- b2 INV + PLACED ( 6200 0 ) N ;",
+            "COMPONENTS 5 ;": "COMPONENTS 6 ;",
+            "- gb b1 + REGION B ;": "- gb b* + REGION B ;",
+            "- B ( 6000 0 ) ( 10000 8000 ) + TYPE FENCE ;": "- B ( 6000 0 ) ( 6400 2000 ) + TYPE FENCE ;",
+        }
+        status, report = self.repair(changes, "--export", str(self.new), note=self.alone())
+        self.assertEqual((status, report[-1]["left_cells"]), (4, 1))
+        self.assertIn(report[1]["left"], (["b1"], ["b2"]))
 
     def test_the_working_places_are_written_if_a_team_cannot_be_committed(self) -> None:
         working = self.folder / "working.def"

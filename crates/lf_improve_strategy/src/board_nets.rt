@@ -5,6 +5,7 @@ ghost use Rattle.lf_wire_length.specs.Bounds.{IsPinOffset};
 
 use crate::movable::MovableCells;
 use crate::nets_on_board::{BoardNets, BoardPin, BoardPoint, OrientedOffsets};
+use lf_cells::CellId;
 use lf_floorplan::Place;
 use lf_orient::Orient;
 use lf_placement::Placement;
@@ -59,23 +60,35 @@ fn push_all_offsets(netlist: &Netlist, nets: &mut BoardNets) -> Result<(), Alloc
     Ok(())
 }
 
+/// Whether the cell is of the team with this number.
+fn is_of_team(id: CellId, team: usize) -> bool {
+    id.team as usize == team
+}
+
+/// Where the cell is: at its new place if it has moved. `None` if it is unplaced.
+fn place_now(source: &NetSource<'_>, id: CellId) -> Option<Place> {
+    if is_of_team(id, source.team) {
+        if let Some(Some(moved)) = source.moved.get(id.own as usize) {
+            return Some(*moved);
+        }
+    }
+    source.placement.cells().working(id)
+}
+
 /// The pin in this row of the cell of this number: it moves with its cell if the cell may move,
 /// otherwise it is where the cell is. `None` if the cell is unplaced, or there is none.
 fn pin_of_cell(source: &NetSource<'_>, cell: u32, row: u32) -> Option<BoardPin> {
     let cells = source.placement.cells();
     let id = *cells.cell_ids().get(cell as usize)?;
-    let mut place = cells.working(id)?;
-    if id.team as usize == source.team {
+    if is_of_team(id, source.team) {
         if let Some(position) = source.movable.position_of(id.own) {
             return Some(BoardPin::OfCell {
                 cell: position,
                 offsets: row,
             });
         }
-        if let Some(Some(moved)) = source.moved.get(id.own as usize) {
-            place = *moved;
-        }
     }
+    let place = place_now(source, id)?;
     let offset = source.netlist.row(row)?;
     Some(BoardPin::Fixed(board_point(&point_of_cell_pin(&place, &offset))))
 }

@@ -19,7 +19,7 @@ const NEAR: usize = 6;
 #[derive(Clone, Copy)]
 struct BestExchange {
     change: i64,
-    moves: Option<[SiteMove; 2]>,
+    moves: Option<(SiteMove, SiteMove)>,
 }
 
 /// The move of a cell to the run with this number, all sites of which it takes there. `None` if it
@@ -74,7 +74,7 @@ fn try_run(
         if change < best.change {
             *best = BestExchange {
                 change,
-                moves: Some([own_move, other_move]),
+                moves: Some((own_move, other_move)),
             };
         }
     }
@@ -120,7 +120,7 @@ pub(crate) fn exchange_equal(
         }
     }
     match best.moves {
-        Some(moves) => make_moves(board, wires, &moves, 0),
+        Some((one, other)) => make_moves(board, wires, &[one, other], 0),
         None => Ok(()),
     }
 }

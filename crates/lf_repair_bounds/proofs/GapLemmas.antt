@@ -1,6 +1,6 @@
 -- The gap near a point, from the widest runs of the team's strips.
 use Rattle.std.proofs.Common.{◌≡◌, ◌∙◌, ◌⊎◌, inl, inr, ℕ, zero, suc, ◌+◌, ◌*◌, ◌<◌, ◌≤◌, ℤ, pos, ◌-ℤ◌, ◌*ℤ◌, ◌≤ℤ◌, List, [], ◌∷◌, ◌++◌, length, get_or, take, Option, None, Some, refl, ap, sym, subst, arith}
-use Rattle.std.specs.Prelude.{Any, MatchOption, option_and_then, option_map, slice_get}
+use Rattle.std.specs.Prelude.{Any, MatchOption, option_map, slice_get}
 use Rattle.std.specs.Int.RustNames.{unsigned_abs}
 use Rattle.std.specs.Option.{option_map_or}
 use Rattle.std.proofs.lemmas.Int.{ints}
@@ -14,10 +14,10 @@ use Rattle.lf_floorplan.specs.declared.place.Place.{Place}
 use Rattle.lf_rules.specs.Choice.{anchor}
 use Rattle.lf_cells.specs.declared.cell.Cell.{Cell}
 use Rattle.lf_cells.specs.declared.cell.CellId.{CellId}
-use Rattle.lf_cells.specs.Cells.{Cells, cells_of, committed_at, id_in, id_of}
+use Rattle.lf_cells.specs.Cells.{Cells, cells_of, id_in, id_of}
 use Rattle.lf_repair_bounds.specs.declared.near_runs.RowRun.{RowRun}
 use Rattle.lf_repair_bounds.specs.FreeRuns.{AreRunsOfTeam, IsRunInRow}
-use Rattle.lf_repair_bounds.specs.Gaps.{AreGaps, HasFreeRun, IsFreeRun, IsGapAt, IsGapOf, IsNearRow, IsRowOfTeam, PlacedTeam, gap_target, placed_team, row_distance}
+use Rattle.lf_repair_bounds.specs.Gaps.{AreGaps, HasFreeRun, IsFreeRun, IsGapAt, IsGapOf, IsNearRow, IsRowOfTeam, PlacedTeam, gap_target, place_at, placed_team, row_distance}
 use Rattle.lf_repair_bounds.specs.MinDisplacements.{corner}
 use Rattle.lf_repair_bounds.specs.NearRuns.{IsNearRowRun, IsWidestNear, run_distance}
 
@@ -85,34 +85,30 @@ module _ (t : PlacedTeam) (target : Point) (runs : List RowRun) (of : AreRunsOfT
             let at_least = found.4.1 in
             omega (arith, ints, product, at_least, bound)
 
--- the target of a cell with this committed place
-abbrev near_point : Frame → ℕ → Option Place → Point
-near_point f team o = option_map_or corner o (anchor f team)
-
--- the gap of a cell, by the cell's committed place
+-- the gap of a cell, near its place in a list
 pub gap_of_cell : (f : Frame) (team padding : ℕ) (table : Cells) (runs : List RowRun) → AreRunsOfTeam (placed_team f team padding (cells_of table team)) runs
-    → (own width far : ℕ) (id : CellId) (target : Point) → id_in (cells_of table team) team own ≡ Some id
-    → target ≡ option_map_or corner (committed_at (cells_of table id.team) id.own) (anchor f team) → far ≡ 8 * unsigned_abs f.pitch.y
-    → IsWidestNear target far runs width → IsGapOf (placed_team f team padding (cells_of table team)) own width
-gap_of_cell f team padding table runs of own width far id target known is_there is near = go (slice_get (cells_of table team) own) refl where
+    → (places : List (Option Place)) (own width far : ℕ) (id : CellId) (target : Point) → id_in (cells_of table team) team own ≡ Some id
+    → target ≡ option_map_or corner (place_at places id.own) (anchor f team) → far ≡ 8 * unsigned_abs f.pitch.y
+    → IsWidestNear target far runs width → IsGapOf (placed_team f team padding (cells_of table team)) (place_at places) own width
+gap_of_cell f team padding table runs of places own width far id target known is_there is near = go (slice_get (cells_of table team) own) refl where
   go : (o : Option Cell) → slice_get (cells_of table team) own ≡ o
-      → MatchOption o (width ≡ 0) (λ c. IsGapAt (placed_team f team padding (cells_of table team)) (gap_target (placed_team f team padding (cells_of table team)) c) width)
+      → MatchOption o (width ≡ 0) (λ c. IsGapAt (placed_team f team padding (cells_of table team)) (gap_target (placed_team f team padding (cells_of table team)) (place_at places own)) width)
   go None none = absurd (no_id (ap (option_map (λ (c : Cell). id_of team own)) (sym none) ∙ known)) where
     no_id : None ≡ Some id → ⊥
     no_id e = cc
   go (Some c) some =
       let same : id ≡ id_of team own = the_id (sym known ∙ ap (option_map (λ (x : Cell). id_of team own)) some) in
-      let there : target ≡ near_point f team c.committed = is_there ∙ ap (λ (i : CellId). near_point f team (committed_at (cells_of table i.team) i.own)) same
-      ∙ ap (λ (o : Option Cell). near_point f team (option_and_then (λ (x : Cell). x.committed) o)) some in
+      let there : target ≡ option_map_or corner (place_at places own) (anchor f team) = is_there
+      ∙ ap (λ (i : CellId). option_map_or corner (place_at places i.own) (anchor f team)) same in
       subst (λ (p : Point). IsGapAt (placed_team f team padding (cells_of table team)) p width) there
       (gap_at (placed_team f team padding (cells_of table team)) target runs of far width is near) where
         the_id : Some id ≡ Some (id_of team own) → id ≡ id_of team own
         the_id e = cc
 
 -- one more cell
-pub gaps_more : (t : PlacedTeam) (owns : List ℕ) (k : ℕ) (d : ℕ) (gaps new : List ℕ) (gap : ℕ) → IsGapOf t (get_or owns k d) gap → k < length owns
-    → new ≡ gaps ++ gap ∷ [] → AreGaps t (take k owns) gaps → AreGaps t (take (k + 1) owns) new
-gaps_more t owns k d gaps new gap is within grown so =
-    subst (λ (list : List ℕ). AreGaps t (take (k + 1) owns) list) (sym grown)
-    (subst (λ (list : List ℕ). AreGaps t list (gaps ++ gap ∷ [])) (sym (take_more owns k d within))
-    (AllZip-push (IsGapOf t) (take k owns) gaps (get_or owns k d) gap so is))
+pub gaps_more : (t : PlacedTeam) (place_of : ℕ → Option Place) (owns : List ℕ) (k : ℕ) (d : ℕ) (gaps new : List ℕ) (gap : ℕ) → IsGapOf t place_of (get_or owns k d) gap
+    → k < length owns → new ≡ gaps ++ gap ∷ [] → AreGaps t place_of (take k owns) gaps → AreGaps t place_of (take (k + 1) owns) new
+gaps_more t place_of owns k d gaps new gap is within grown so =
+    subst (λ (list : List ℕ). AreGaps t place_of (take (k + 1) owns) list) (sym grown)
+    (subst (λ (list : List ℕ). AreGaps t place_of list (gaps ++ gap ∷ [])) (sym (take_more owns k d within))
+    (AllZip-push (IsGapOf t place_of) (take k owns) gaps (get_or owns k d) gap so is))

@@ -1,5 +1,5 @@
--- Gaps: the widest free runs of sites in the rows near the places of cells.
-use Rattle.std.specs.Prelude.{◌≡◌, ◌⊎◌, ℕ, ℤ, pos, ◌+◌, ◌*◌, ◌≤◌, ◌+ℤ◌, ◌-ℤ◌, ◌*ℤ◌, List, All, Contains, IfSome, MatchOption, slice_get}
+-- Gaps: the widest free runs of sites in the rows near given places of cells.
+use Rattle.std.specs.Prelude.{◌≡◌, ◌⊎◌, ℕ, ℤ, pos, ◌+◌, ◌*◌, ◌≤◌, ◌+ℤ◌, ◌-ℤ◌, ◌*ℤ◌, List, Option, All, Contains, IfSome, MatchOption, option_and_then, slice_get}
 use Rattle.std.specs.Int.RustNames.{unsigned_abs}
 use Rattle.std.specs.List.{AllZip}
 use Rattle.std.specs.Option.{option_map_or}
@@ -8,6 +8,7 @@ use Rattle.lf_units.specs.declared.geometry.Rect.{Rect}
 use Rattle.lf_units.specs.Area.{SharesPoint}
 use Rattle.lf_floorplan.specs.declared.frame.Frame.{Frame}
 use Rattle.lf_floorplan.specs.declared.parts.Row.{Row}
+use Rattle.lf_floorplan.specs.declared.place.Place.{Place}
 use Rattle.lf_floorplan.specs.Ground.{IsClear, OverlapsSoft, StaysInGround}
 use Rattle.lf_floorplan.specs.Rows.{row_area}
 use Rattle.lf_rules.specs.Choice.{anchor}
@@ -78,15 +79,20 @@ pub record IsGapAt (t : PlacedTeam) (target : Point) (width : ℕ) : Type 0 wher
   pub is_one : (width ≡ 0) ⊎ HasFreeRun t target width
   pub no_wider : (other : ℕ) → HasFreeRun t target other → other ≤ width
 
--- the point near which a cell belongs: its committed place, or the team's anchor if it has none
-abbrev pub gap_target : PlacedTeam → Cell → Point
-gap_target t c = option_map_or corner c.committed (anchor t.frame t.team)
+-- the place at this position in a list of places; None also past its end
+abbrev pub place_at : List (Option Place) → ℕ → Option Place
+place_at places own = option_and_then (λ place. place) (slice_get places own)
 
--- the gap of the team's cell at this position: the width of the widest free run near it; 0 if there
--- is no such cell
-abbrev pub IsGapOf : PlacedTeam → ℕ → ℕ → Type 0
-IsGapOf t own width = MatchOption (slice_get t.cells own) (width ≡ 0) (λ c. IsGapAt t (gap_target t c) width)
+-- the point near which gaps are searched for: the corner of this place, or the team's anchor without one
+abbrev pub gap_target : PlacedTeam → Option Place → Point
+gap_target t place = option_map_or corner place (anchor t.frame t.team)
 
--- the gaps of the cells at these positions
-abbrev pub AreGaps : PlacedTeam → List ℕ → List ℕ → Type 0
-AreGaps t owns gaps = AllZip (IsGapOf t) owns gaps
+-- the gap of the team's cell at this position: the width of the widest free run near the place that is
+-- given for it; 0 if there is no such cell
+abbrev pub IsGapOf : PlacedTeam → (ℕ → Option Place) → ℕ → ℕ → Type 0
+IsGapOf t place_of own width =
+    MatchOption (slice_get t.cells own) (width ≡ 0) (λ c. IsGapAt t (gap_target t (place_of own)) width)
+
+-- the gaps of the cells at these positions, near these places
+abbrev pub AreGaps : PlacedTeam → (ℕ → Option Place) → List ℕ → List ℕ → Type 0
+AreGaps t place_of owns gaps = AllZip (IsGapOf t place_of) owns gaps

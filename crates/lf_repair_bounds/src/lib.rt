@@ -10,8 +10,9 @@
 //! is on the floor. A design with such a cell cannot be legal. `impossible_macros` lists them, each
 //! with the reason (`ImpossibleReason`).
 //!
-//! The *gap* of a cell is the width of the widest free run of sites in the rows near its committed
-//! place. `widest_gaps` returns it for the cells of a team, among the team's working places.
+//! The *gap* of a cell is the width of the widest free run of sites in the rows near a given place, as
+//! the one from which the cell was to move. `widest_gaps` returns it for the cells of a team, among the
+//! team's working places.
 //!
 //! The other searches run on a floor without cells (`EmptyFloor`), with the search for best places.
 //! The crate also copies frames (`clone_frame`).

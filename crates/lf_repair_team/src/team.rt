@@ -84,7 +84,7 @@ fn finish<S: Seeker + Drop, K: Sink>(
         → AreUnrepaired reach targets.now session.now.team.now session.now.impossible.now floor.old unrepaired.items
         → IfOk result (λ found.
         AreUnrepaired reach targets.now session.now.team.now session.now.impossible.now floor.new found.left.items) }
-    ensures unrepaired { IfOk result (λ found. found.left.items ≡ unrepaired.items) }
+    ensures left { IfOk result (λ found. found.left.items ≡ unrepaired.items) }
     ensures committed { (l : Legalizer) → IfOk result (λ found.
         found.left.items ≡ [] → AllCommittedIn l floor.new session.now.team.now) }
     ensures uncommitted { IfOk result (λ found.

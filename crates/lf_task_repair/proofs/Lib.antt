@@ -1,3 +1,4 @@
+mod OldPlaces
 mod Refusals
 mod Staying
 mod TeamLines

@@ -116,18 +116,19 @@ module _ (reach : Option ℤ) where
       }) (sym frame) (sym same)
 
   -- the gaps are the same if the team is unchanged
-  gaps_same : (old new : FloorState) (name owns gaps : List ℕ) → new.frame ≡ old.frame → state_of new name ≡ state_of old name
-      → AreGapsIn old name owns gaps → AreGapsIn new name owns gaps
-  gaps_same old new name owns gaps frame same are number s named there =
-      subst (λ (f : Frame). AreGaps (placed_team f number s.padding s.cells) owns gaps) (sym frame)
-      (are number s (sym (ap (λ (f : Frame). team_number f name) frame) ∙ named) (sym same ∙ there))
+  gaps_same : (a b c d : FloorState) (name owns gaps : List ℕ) → d.frame ≡ b.frame → state_of c name ≡ state_of a name → state_of d name ≡ state_of b name
+      → AreGapsIn b name (place_of_cell_in a name) owns gaps → AreGapsIn d name (place_of_cell_in c name) owns gaps
+  gaps_same a b c d name owns gaps frame first last are number s named there =
+      subst (λ (o : Option TeamState). AreGaps (placed_team d.frame number s.padding s.cells) (places_in o) owns gaps) (sym first)
+      (subst (λ (f : Frame). AreGaps (placed_team f number s.padding s.cells) (place_of_cell_in a name) owns gaps) (sym frame)
+      (are number s (sym (ap (λ (f : Frame). team_number f name) frame) ∙ named) (sym last ∙ there)))
 
   reported_same : (bounds : List ℕ) (list : List ImpossibleMacro) (begin old new : FloorState) (t : TeamReport) → new.frame ≡ old.frame → state_of new t.name ≡ state_of old t.name
       → IsTeamReport reach bounds list begin old t → IsTeamReport reach bounds list begin new t
   reported_same bounds list begin old new t frame same is = record {
     least = is.least ∙ ap (λ (f : Frame). least_for bounds (team_number f t.name)) (sym frame);
     left = is.left ∙ unrepaired_same list old new t.name t.became.unrepaired.items t.left.gaps frame same;
-    gaps = gaps_same old new t.name t.became.unrepaired.items t.left.gaps frame same is.gaps;
+    gaps = gaps_same begin old begin new t.name t.became.unrepaired.items t.left.gaps frame refl same is.gaps;
     repaired = repair_same list begin old begin new t.name t.became refl frame refl same is.repaired;
   }
 
@@ -150,7 +151,12 @@ module _ (reach : Option ℤ) where
       let names : List (List ℕ) = map (λ (u : TeamReport). u.name) ts in
       let is : IsTeamReport reach bounds list old new t = All-head (IsTeamReport reach bounds list old new) t ts each in
       All-cons (IsTeamReport reach bounds list begin new) t ts
-      (record { least = is.least; left = is.left; gaps = is.gaps; repaired = repair_same list old new begin new t.name t.became frame refl (All-head Stays t.name names same) refl is.repaired })
+      (record {
+        least = is.least;
+        left = is.left;
+        gaps = gaps_same old new begin new t.name t.became.unrepaired.items t.left.gaps refl (All-head Stays t.name names same) refl is.gaps;
+        repaired = repair_same list old new begin new t.name t.became frame refl (All-head Stays t.name names same) refl is.repaired;
+      })
       (reported_from bounds list begin old new ts frame (All-tail Stays t.name names same) (All-tail (IsTeamReport reach bounds list old new) t ts each))
 
   lines_from : (names : List (List ℕ)) (begin old new : FloorState) (a b : RepairReport) → begin.frame ≡ old.frame
@@ -182,7 +188,7 @@ module _ (reach : Option ℤ) where
 
   -- one team is reported
   pub one_reported : (f : Frame) (teams : List (List ℕ)) (number : ℕ) (name : List ℕ) (begin floor : FloorState) (repaired : RepairStats) (old new : RepairReport)
-      → slice_get (team_names f) number ≡ Some name → is_selected teams name ≡ true → IsOneMore floor name repaired old new
+      → slice_get (team_names f) number ≡ Some name → is_selected teams name ≡ true → IsOneMore floor name (place_of_cell_in begin name) repaired old new
       → IsRepairOf reach old.impossible.items name begin floor repaired → AddsTeamLines reach (selected_at f teams number) begin floor old new
   one_reported f teams number name begin floor repaired old new there requested is result = record {
     reported = t ∷ [];

@@ -13,7 +13,7 @@ use Rattle.lf_repair_strategy.specs.declared.pass.MovePolicy.{MovePolicy}
 use Rattle.lf_repair_strategy.specs.declared.pass.MovePolicy.TheVariants.{KeepLegal as Keep, MoveAsNeeded as AsNeeded, MoveAll as AllCells}
 use Rattle.lf_task_run.specs.Teams.{selected_names}
 use Rattle.lf_repair_team.specs.Stats.{AreTeamMeans, AreTeamStats}
-use Rattle.lf_repair_team.specs.TeamRepairs.{KeepsLegalPlaces, AreLegalExcept, AreMovedOffSoft, HasNoPlaceOrIsListed, IsIllegalIn, KeepsListedPlaces, StaysWithin, WasIllegal, committed_in, settings_in}
+use Rattle.lf_repair_team.specs.TeamRepairs.{KeepsLegalPlaces, AreLegalExcept, AreMovedOffSoft, HasNoPlaceOrIsListed, IsIllegalIn, KeepsListedPlaces, StaysWithin, WasIllegal, committed_in, place_of_cell_in, settings_in}
 use Rattle.lf_repair_strategy.specs.declared.stats.RepairStats.{RepairStats}
 use Rattle.lf_density.specs.declared.density.Density.{Density}
 use Rattle.lf_task_reports.specs.declared.density.DensityChange.{DensityChange}
@@ -27,10 +27,10 @@ use Rattle.lf_task_files.specs.declared.measured.RepairLimits.{RepairLimits}
 -- ---- the cells that may move
 
 -- which of a team's cells may move
-abbrev pub how_of : LegalCells → MovePolicy
-how_of KeepLegal = Keep
-how_of MoveAsNeeded = AsNeeded
-how_of MoveAll = AllCells
+abbrev pub policy_of : LegalCells → MovePolicy
+policy_of KeepLegal = Keep
+policy_of MoveAsNeeded = AsNeeded
+policy_of MoveAll = AllCells
 
 -- the legal cells of all teams are at the same places
 abbrev pub KeepsAllLegalPlaces : FloorState → FloorState → Type 0
@@ -83,13 +83,13 @@ pub record IsRepairOf (reach : Option ℤ) (list : List ImpossibleMacro) (team :
   pub settings : settings_in floor team ≡ settings_in begin team
   pub off_soft : AreMovedOffSoft team begin floor
 
--- the team is reported with its own bound, its unrepaired cells and their gaps, and the result of its
--- repair from the first floor to the last one
+-- the team is reported with its own bound, its unrepaired cells and their gaps on the last floor near
+-- the places that they had on the first one, and the result of its repair from one to the other
 pub record IsTeamReport (reach : Option ℤ) (bounds : List ℕ) (list : List ImpossibleMacro) (begin floor : FloorState)
     (t : TeamReport) : Type 0 where
   pub least : t.least ≡ least_for bounds (team_number floor.frame t.name)
   pub left : t.left ≡ unrepaired_with list floor t.name t.became.unrepaired.items t.left.gaps
-  pub gaps : AreGapsIn floor t.name t.became.unrepaired.items t.left.gaps
+  pub gaps : AreGapsIn floor t.name (place_of_cell_in begin t.name) t.became.unrepaired.items t.left.gaps
   pub repaired : IsRepairOf reach list t.name begin floor t.became
 
 -- the lines of the teams with these names are appended, each with the result of its repair from one

@@ -3,23 +3,26 @@
 ghost use Rattle.std.specs.Prelude.{◌≡◌, ◌≢◌, ◌+◌, ◌-◌, ◌^◌, ℕ, List, Some, IfErr, IfOk, OnOk, length, map, min, pos};
 ghost use Rattle.lf_cli.specs.declared.parse.LegalCells.TheVariants.{KeepLegal};
 ghost use Rattle.lf_rules.specs.Legalizer.{Legalizer};
+ghost use Rattle.lf_floor_model.specs.States.{TeamState};
 ghost use Rattle.lf_floor_model.specs.Teams.{state_of, team_number};
 ghost use Rattle.lf_repair_strategy.specs.declared.pass.MovePolicy.TheVariants.{KeepLegal as Keep};
-ghost use Rattle.lf_repair_team.specs.TeamRepairs.{ChangesOnly, KeepsLegalPlaces};
+ghost use Rattle.lf_repair_team.specs.TeamRepairs.{ChangesOnly, KeepsLegalPlaces, place_of_cell_in};
+ghost use Rattle.lf_repair_strategy.specs.Targets.{AreWorkingPlaces};
 ghost use Rattle.lf_repair_strategy.specs.declared.stats.RepairStats.{RepairStats};
 ghost use Rattle.lf_task_reports.specs.RepairReports.{IsOneMore};
 ghost use Rattle.lf_task_faults.specs.declared.faults.Fault.TheVariants.{SetupOutOfMemory};
 ghost use Rattle.lf_task_run.specs.Commands.{IsKeptRun, kept_text};
 ghost use Rattle.lf_task_run.specs.Tasks.{IsWorkDone, request_of};
 ghost use Rattle.lf_task_run.specs.Teams.{AreKnown, IsStatusOf, OnlySelectedChange, selected_at, selected_names};
-ghost use Rattle.lf_task_repair.specs.Reports.{AddsTeamLines, AddsTotalLine, IsRepairOf, KeepsAllLegalPlaces, how_of, reach_of_rows};
+ghost use Rattle.lf_task_repair.specs.Reports.{AddsTeamLines, AddsTotalLine, IsRepairOf, KeepsAllLegalPlaces, policy_of, reach_of_rows};
 ghost use Rattle.lf_task_repair.specs.Repairs.{repair_means};
 
 use lf_cli::{LegalCells, RepairOptions};
 use lf_density::Density;
 use lf_floor::{Floor, team_name};
-use lf_floorplan::Frame;
+use lf_floorplan::{Frame, Place};
 use lf_legalize::IndexSeeker;
+use lf_repair_strategy::working_places;
 use lf_repair_team::{MovePolicy, RepairSearch, repair_team};
 use lf_rules::legalizer_exists;
 use lf_task_faults::Fault;
@@ -29,20 +32,36 @@ use lf_task_run::{
     CommandLog, Job, Progress, ProgressSink, TaskResults, announce_team, is_selected, status_by,
 };
 use lf_wire_targets::TeamTargets;
-use std::alloc::Global;
+use std::alloc::{AllocError, Global};
 
 /// The greatest distance that a cell may be allowed to go, in database units.
 const MOST_REACH: u64 = 9_223_372_036_854_775_807;
 
 /// Which of a team's cells may move.
-fn how_of(legal: LegalCells) -> MovePolicy
-    ensures { result ≡ how_of legal }
+fn policy_of(legal: LegalCells) -> MovePolicy
+    ensures { result ≡ policy_of legal }
 {
     match legal {
         LegalCells::KeepLegal => MovePolicy::KeepLegal,
         LegalCells::MoveAsNeeded => MovePolicy::MoveAsNeeded,
         LegalCells::MoveAll => MovePolicy::MoveAll,
     }
+}
+
+/// Returns the working places of the cells of the team with this name, in loading order. Empty if no team
+/// has the name. `Err` if an allocation fails.
+fn places_in_team(
+    alloc: Global,
+    floor: &Floor<IndexSeeker>,
+    team: &[u8],
+) -> Result<Vec<Option<Place>>, AllocError>
+    ensures { (s : TeamState) → state_of floor.now team.now ≡ Some s
+        → IfOk result (λ places. AreWorkingPlaces s.cells places.items) }
+{
+    let Some(number) = floor.team_number(team) else {
+        return Ok(Vec::new(alloc));
+    };
+    working_places(alloc, floor.placement(), number)
 }
 
 /// Repairs the team with this name, and adds its line to the report. `Err` if an allocation fails, or
@@ -62,14 +81,16 @@ fn repair_named<'f, P: Progress>(
     ensures only { ChangesOnly name.now floor.old floor.new }
     ensures kept { policy ≡ Keep → KeepsLegalPlaces name.now floor.old floor.new }
     ensures reported { OnOk result
-        ((repaired : RepairStats) × IsOneMore floor.new name.now repaired report.old report.new
+        ((repaired : RepairStats)
+        × IsOneMore floor.new name.now (place_of_cell_in floor.old name.now) repaired report.old report.new
         × IsRepairOf search.now.reach report.old.impossible.items name.now floor.old floor.new repaired) }
     ensures err { IfErr result (λ fault. fault ≡ SetupOutOfMemory) }
 {
+    let old_places = places_in_team(alloc, floor, name)?;
     let impossible = report.impossible.as_slice();
     match repair_team(alloc, floor, name, policy, search, impossible, lines) {
         Ok(repaired) => {
-            report.add(alloc, floor, name, &repaired)?;
+            report.add(alloc, floor, name, old_places.as_slice(), &repaired)?;
             Ok(())
         }
         Err(_) => Err(Fault::SetupOutOfMemory),
@@ -153,7 +174,7 @@ fn repair_numbered<'f, P: Progress>(
     announce_team(lines.progress, "repairing", frame, name, number);
     let search = search_of(frame, plan.options, plan.targets, number);
     let legal = plan.options.legal;
-    repair_named(alloc, floor, name, how_of(legal), &search, lines, report)
+    repair_named(alloc, floor, name, policy_of(legal), &search, lines, report)
 }
 
 /// Repairs the selected teams in their order.

@@ -4,6 +4,7 @@ use Rattle.serde_json.specs.Data.{Data}
 use Rattle.serde_json.specs.View.{items_of}
 use Rattle.serde_json.specs.Written.{has_float, items_have_float}
 use Rattle.lf_describe.proofs.NoFloat.{neither, text}
+use Rattle.lf_floorplan.specs.declared.place.Place.{Place}
 use Rattle.lf_floor_model.specs.States.{FloorState}
 use Rattle.lf_repair_bounds.specs.declared.reasons.ImpossibleMacro.{ImpossibleMacro}
 use Rattle.lf_repair_bounds.specs.declared.reasons.ImpossibleReason.{ImpossibleReason}
@@ -24,9 +25,9 @@ reasons (None ∷ rs) = reasons rs
 reasons (Some r ∷ rs) = reasons rs
 
 -- the line of a team has no such number
-pub team_has_none : (floor : FloorState) (team : List ℕ) (list : List ImpossibleMacro) (r : RepairStats) (least : ℕ) (line : Data)
-    → IsTeamData floor team list r least line → has_float line ≡ false
-team_has_none floor team list r least line is =
+pub team_has_none : (floor : FloorState) (team : List ℕ) (old_place : ℕ → Option Place) (list : List ImpossibleMacro) (r : RepairStats) (least : ℕ) (line : Data)
+    → IsTeamData floor team old_place list r least line → has_float line ≡ false
+team_has_none floor team old_place list r least line is =
     subst (λ (d : Data). has_float d ≡ false) (sym is.2)
     (neither _ _ (counts is.0) (neither _ _ (reasons (cell_reasons list floor team r.unrepaired.items))
     (neither _ _ (names (cell_names floor team r.unrepaired.items)) (neither _ _ (text team) refl))))

@@ -5,6 +5,7 @@ use Rattle.std.specs.Option.{option_map_or}
 use Rattle.serde_json.specs.Data.{Data, Members, array, boolean, member, no_members, null, object, put, string}
 use Rattle.serde_json.specs.View.{items_of}
 use Rattle.lf_describe.specs.Description.{count_data as whole_number, line_text as text_of_line, text_data as name_data}
+use Rattle.lf_floorplan.specs.declared.place.Place.{Place}
 use Rattle.lf_floor_model.specs.States.{FloorState, TeamState}
 use Rattle.lf_floor_model.specs.Teams.{state_of, team_number}
 use Rattle.lf_floor_model.specs.Outcomes.{name_at}
@@ -133,21 +134,24 @@ team_line name left least r = report_line_text (team_data (report_text_value nam
 abbrev pub least_for : List ℕ → Option ℕ → ℕ
 least_for least number = option_map_or (λ n. option_map_or (λ way. way) (slice_get least n) 0) number 0
 
--- these are the gaps of the team's cells at these positions on this floor
-abbrev pub AreGapsIn : FloorState → List ℕ → List ℕ → List ℕ → Type 0
-AreGapsIn floor team owns gaps = (number : ℕ) (s : TeamState) → team_number floor.frame team ≡ Some number
-    → state_of floor team ≡ Some s → AreGaps (placed_team floor.frame number s.padding s.cells) owns gaps
+-- these are the gaps of the team's cells at these positions on this floor, near the places from which
+-- the cells were to move
+abbrev pub AreGapsIn : FloorState → List ℕ → (ℕ → Option Place) → List ℕ → List ℕ → Type 0
+AreGapsIn floor team old_place owns gaps = (number : ℕ) (s : TeamState) → team_number floor.frame team ≡ Some number
+    → state_of floor team ≡ Some s → AreGaps (placed_team floor.frame number s.padding s.cells) old_place owns gaps
 
 -- the members of the team on this floor, without the reasons
-abbrev pub HasTeamMembers : FloorState → List ℕ → RepairStats → ℕ → Data → Type 0
-HasTeamMembers floor team r least line = (gaps : List ℕ) × AreGapsIn floor team r.unrepaired.items gaps
+abbrev pub HasTeamMembers : FloorState → List ℕ → (ℕ → Option Place) → RepairStats → ℕ → Data → Type 0
+HasTeamMembers floor team old_place r least line =
+    (gaps : List ℕ) × AreGapsIn floor team old_place r.unrepaired.items gaps
     × (line ≡ object (team_members (report_text_value team)
     (names_data (cell_names floor team r.unrepaired.items)) (counts_data gaps) least r))
 
 -- the JSON of the team on this floor
-abbrev pub IsTeamData : FloorState → List ℕ → List ImpossibleMacro → RepairStats → ℕ → Data → Type 0
-IsTeamData floor team list r least line =
-    (gaps : List ℕ) × AreGapsIn floor team r.unrepaired.items gaps
+abbrev pub IsTeamData : FloorState → List ℕ → (ℕ → Option Place) → List ImpossibleMacro → RepairStats → ℕ → Data
+    → Type 0
+IsTeamData floor team old_place list r least line =
+    (gaps : List ℕ) × AreGapsIn floor team old_place r.unrepaired.items gaps
     × (line ≡ team_data (report_text_value team) (names_data (cell_names floor team r.unrepaired.items))
     (counts_data gaps) (reasons_data (cell_reasons list floor team r.unrepaired.items)) least r)
 
@@ -223,10 +227,12 @@ unrepaired_with list floor team owns gaps = record {
   reasons = cell_reasons list floor team owns;
 }
 
--- the line of one more team is appended, given the result of its repair on this floor
-pub record IsOneMore (floor : FloorState) (team : List ℕ) (r : RepairStats) (old new : RepairReport) : Type 0 where
+-- the line of one more team is appended, given the result of its repair on this floor, and the places
+-- from which its cells were to move
+pub record IsOneMore (floor : FloorState) (team : List ℕ) (old_place : ℕ → Option Place) (r : RepairStats)
+    (old new : RepairReport) : Type 0 where
   pub gaps : List ℕ
-  pub near : AreGapsIn floor team r.unrepaired.items gaps
+  pub near : AreGapsIn floor team old_place r.unrepaired.items gaps
   pub text : new.text.items ≡ old.text.items
       ++ team_line team (unrepaired_with old.impossible.items floor team r.unrepaired.items gaps)
       (least_for old.least.items (team_number floor.frame team)) r

@@ -15,7 +15,7 @@
 //!
 //! Modules, in reading order:
 //!
-//! - `gaps`: the widest free gap near each unrepaired cell
+//! - `gaps`: the widest free gap near the old place of each unrepaired cell
 //! - `reasons`: why no place can hold an unrepaired cell
 //! - `totals`: sums over the teams of a repair
 //! - `density`: how full the fullest bins are with the cells of a floor

@@ -3,6 +3,7 @@
 ghost use Rattle.std.specs.Prelude.{◌≡◌, ◌++◌, [], IfOk, OnOk, false};
 ghost use Rattle.serde_json.specs.View.{view};
 ghost use Rattle.serde_json.specs.Written.{has_float};
+ghost use Rattle.lf_repair_bounds.specs.Gaps.{place_at};
 ghost use Rattle.lf_task_reports.specs.RepairReports.{HasTeamMembers, IsOneMore, IsTeamData, all_line, least_for, no_sums, report_line_text};
 
 use crate::density::DensityChange;
@@ -14,6 +15,7 @@ use crate::repair_json::{
 use crate::totals::{Totals, none, with_one};
 use lf_describe::name_value;
 use lf_floor::Floor;
+use lf_floorplan::Place;
 use lf_legalize::Seeker;
 use lf_repair_bounds::ImpossibleMacro;
 use lf_repair_strategy::RepairStats;
@@ -58,18 +60,20 @@ fn push_line(alloc: Global, text: &mut Vec<u8>, value: &Value) -> Result<(), All
     Ok(())
 }
 
-/// The line of a team without the reasons, given the result of its repair on the floor and the
-/// largest of the least displacements of its cells.
+/// The line of a team without the reasons, given the old places of its cells, the result of its repair
+/// on the floor and the largest of the least displacements of its cells.
 fn members_of<S: Seeker + Drop>(
     alloc: Global,
     floor: &Floor<S>,
     team: &[u8],
+    old_places: &[Option<Place>],
     repaired: &RepairStats,
     least: u64,
 ) -> Result<Value, AllocError>
-    ensures { IfOk result (λ v. HasTeamMembers floor.now team.now repaired.now least (view v)) }
+    ensures { IfOk result (λ v.
+        HasTeamMembers floor.now team.now (place_at old_places.now) repaired.now least (view v)) }
 {
-    let found = gaps_near(alloc, floor, team, &repaired.unrepaired)?;
+    let found = gaps_near(alloc, floor, team, old_places, &repaired.unrepaired)?;
     let gaps = array_value(count_values(alloc, &found)?);
     let left = array_value(name_values(alloc, floor, team, &repaired.unrepaired)?);
     let name = name_value(alloc, team)?;
@@ -77,19 +81,21 @@ fn members_of<S: Seeker + Drop>(
     with_means(alloc, line, &repaired.means)
 }
 
-/// The line of a team, given the result of its repair on the floor and the largest of the least
-/// displacements of its cells.
+/// The line of a team, given the old places of its cells, the result of its repair on the floor and the
+/// largest of the least displacements of its cells.
 fn line_of<S: Seeker + Drop>(
     alloc: Global,
     floor: &Floor<S>,
     team: &[u8],
+    old_places: &[Option<Place>],
     list: &[ImpossibleMacro],
     repaired: &RepairStats,
     least: u64,
 ) -> Result<Value, AllocError>
-    ensures { IfOk result (λ v. IsTeamData floor.now team.now list.now repaired.now least (view v)) }
+    ensures { IfOk result (λ v.
+        IsTeamData floor.now team.now (place_at old_places.now) list.now repaired.now least (view v)) }
 {
-    let members = members_of(alloc, floor, team, repaired, least)?;
+    let members = members_of(alloc, floor, team, old_places, repaired, least)?;
     let reasons = reason_values(alloc, floor, team, list, &repaired.unrepaired)?;
     with_impossible(alloc, members, array_value(reasons))
 }
@@ -116,20 +122,23 @@ impl RepairReport {
         })
     }
 
-    /// Appends the line of a team, given the result of its repair on the floor. `Err` if an
-    /// allocation fails.
+    /// Appends the line of a team, given the result of its repair on the floor. `old_places` has the
+    /// place from which each cell of the team was to move, in loading order. `Err` if an allocation
+    /// fails.
     pub fn add<S: Seeker + Drop>(
         &mut self,
         alloc: Global,
         floor: &Floor<S>,
         team: &[u8],
+        old_places: &[Option<Place>],
         repaired: &RepairStats,
     ) -> Result<(), AllocError>
-        ensures { OnOk result (IsOneMore floor.now team.now repaired.now self.old self.new) }
+        ensures { OnOk result
+            (IsOneMore floor.now team.now (place_at old_places.now) repaired.now self.old self.new) }
     {
         let least = least_at(&self.least, floor.team_number(team));
         let list = self.impossible.as_slice();
-        let line = line_of(alloc, floor, team, list, repaired, least)?;
+        let line = line_of(alloc, floor, team, old_places, list, repaired, least)?;
         push_line(alloc, &mut self.text, &line)?;
         self.sums = with_one(&self.sums, repaired, least);
         Ok(())

@@ -121,4 +121,4 @@ returns-clause-free g c = λ locked.
     ok_weaker c.finish.result (λ found. found.left.items ≡ c.in-Ok-run_passes.unrepaired.items) (λ found. NoneIsFlagged marks found.left.items)
     (λ found same. subst (λ (xs : List ℕ). NoneIsFlagged marks xs) (sym same)
     (c.in-Ok-run_passes.ensures.free (locked_opened c.args.team.now marks c.args.input.now.pass.targets.items c.args.floor.now c.open.new.floor c.in-Ok.ensures.only.frame c.in-Ok.ensures.cells locked)))
-    c.finish.ensures.unrepaired
+    c.finish.ensures.left

@@ -2,7 +2,7 @@ use Rattle.std.proofs.Common.{◌≡◌, ◌∙◌, List, ℕ, ℤ, Option, Some
 use Rattle.std.specs.Prelude.{slice_get}
 use Rattle.std.proofs.lemmas.Result.{on_ok_weaker}
 use Rattle.lf_floor_model.specs.Teams.{team_names, team_number}
-use Rattle.lf_task_repair.specs.Reports.{how_of, IsRepairOf, reach_of_rows}
+use Rattle.lf_task_repair.specs.Reports.{policy_of, IsRepairOf, reach_of_rows}
 use Rattle.lf_task_run.specs.Teams.{is_selected}
 use Rattle.lf_task_run.proofs.Named.{numbered}
 use Rattle.lf_task_repair.proofs.Staying.{stay_alike}
@@ -30,7 +30,7 @@ pub returns-clause-kept : goal.returns-clause-kept
 returns-clause-kept g c = λ to_stay team named.
     let there : slice_get (team_names c.args.floor.now.frame) c.args.number ≡ Some c.as_slice-name.result.now = search rules in
     stay_alike team c.as_slice-name.result.now c.args.floor.now c.repair_named.new.floor c.repair_named.ensures.only.frame
-    (named ∙ sym (numbered c.args.floor.now.frame c.args.number c.as_slice-name.result.now there)) (c.repair_named.ensures.kept (c.how_of.ensures ∙ ap how_of to_stay))
+    (named ∙ sym (numbered c.args.floor.now.frame c.args.number c.as_slice-name.result.now there)) (c.repair_named.ensures.kept (c.policy_of.ensures ∙ ap policy_of to_stay))
 
 pub returns-clause-others : goal.returns-clause-others
 returns-clause-others g c = λ team differ.

@@ -2,6 +2,7 @@ use Rattle.std.proofs.Common.{◌≡◌, ◌∙◌, ℕ, List, ap, subst}
 use Rattle.std.proofs.lemmas.Result.{IfOk-weaker}
 use Rattle.serde_json.specs.Data.{Data, array, object}
 use Rattle.serde_json.specs.View.{items_of, view}
+use Rattle.lf_repair_bounds.specs.Gaps.{place_at}
 use Rattle.lf_task_reports.specs.RepairReports.{AreGapsIn, cell_names, counted_members, counts_data, names_data, report_text_value, with_means}
 use Rattle.lf_task_reports.proofs.repair_report.members_of.Goals as goal
 
@@ -22,7 +23,7 @@ returns g c =
     IfOk-weaker c.with_means.result _ _
     (λ v same. (
       found,
-      subst (λ (owns : List ℕ). AreGapsIn floor team owns found) c.deref.ensures.value c.in_ok-found.ensures,
+      subst (λ (owns : List ℕ). AreGapsIn floor team (place_at c.args.old_places.now) owns found) c.deref.ensures.value c.in_ok-found.ensures,
       same ∙ ap (λ (d : Data). object (with_means r.means (counted_members d left gaps c.args.least r))) c.in_ok-name.ensures
           ∙ ap (λ (d : Data). object (with_means r.means (counted_members (report_text_value team) d gaps c.args.least r))) left_is
           ∙ ap (λ (d : Data). object (with_means r.means (counted_members (report_text_value team) (names_data (cell_names floor team r.unrepaired.items)) d c.args.least r))) gaps_are,
