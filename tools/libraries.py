@@ -49,7 +49,7 @@ GROUPS = {
         "spans, numbers, boxes, orientations, and the types of a frame",
     ),
     "texts": Group(
-        "lf_lex lf_names lf_lef lf_def lf_team_def lf_write lf_describe",
+        "lf_lex lf_names lf_lef lf_def lf_slice lf_team_def lf_write lf_describe",
         "tokens, names, the readers of LEF and DEF, and what is written of a design",
     ),
     "loading": Group(
@@ -76,7 +76,7 @@ GROUPS = {
         "the state of all teams. `lf_floor_model` defines outcomes and proves laws, and has no code. `lf_floor_verbs`"
         " changes the tables. `lf_floor` finds the team, saves and restores",
     ),
-    "state": Group("lf_state_text", "the text of a saved state, written and read"),
+    "state": Group("lf_state_*", "the text of a saved state, written and read, and several states gathered"),
     "journal": Group(
         "lf_journal lf_journal_*",
         "the journal of a hub. `_text` is its text, `lf_journal` puts batches on a disk, `_file` is a file as a disk."
