@@ -1,7 +1,9 @@
-"""The wrong bodies of mutants/, must-fail/ and tests/planted/: what each replaces is in its file exactly once."""
+"""The wrong bodies of mutants/, must-fail/ and tests/planted/: what each replaces is in its file exactly once, and the
+tests that must fail on those of tests/planted/ exist."""
 
 from __future__ import annotations
 
+import re
 import unittest
 from collections.abc import Iterator
 from pathlib import Path
@@ -37,6 +39,16 @@ class Edits(unittest.TestCase):
             if (folder / file).read_text().count(text) != 1
         ]
         self.assertEqual(found, [])
+
+    def test_each_planted_one_has_its_test(self) -> None:
+        edits = sorted((TOP / "tests/planted").glob("*.edit"))
+        for edit in edits:
+            with self.subTest(edit.name):
+                [name] = [line.removeprefix("test: ") for line in edit.read_text().splitlines() if line[:6] == "test: "]
+                module, case, test = name.split(".")
+                text = (TOP / f"tests/{module}.py").read_text()
+                [body] = re.findall(rf"^class {case}\(.*?(?=^\S|\Z)", text, re.MULTILINE | re.DOTALL)
+                self.assertIn(f"    def {test}(self)", body)
 
 
 if __name__ == "__main__":

@@ -376,8 +376,10 @@ class Improve(InFolder):
 
     def test_more_rounds_make_the_nets_shorter(self) -> None:
         text = Chip(8, 8, 12).text()
-        one, four = (self.improve(text, "--rounds", rounds)[-1]["doubled"] for rounds in ("1", "4"))
-        self.assertGreater(int(str(one)), int(str(four)))
+        lengths = [self.improve(text, "--rounds", rounds)[-1]["doubled"] for rounds in ("1", "4", "100")]
+        one, four, most = (int(str(length)) for length in lengths)
+        self.assertGreater(one, four)
+        self.assertGreater(four, most)
         self.assertEqual(self.improve(text)[-1]["doubled"], four)
 
     def test_effort_and_a_density_never_make_the_nets_longer(self) -> None:
@@ -435,6 +437,27 @@ class Improve(InFolder):
         self.assertEqual((report[-1]["doubled_before"], report[-1]["doubled"], report[-1]["moved"]), (4000, 800, 2))
         new = self.places()[1]
         self.assertEqual([new[name][:2] for name in "pqrc"], [(0, 0), (800, 0), (1200, 0), (400, 0)])
+
+    def test_cells_in_front_of_a_gap_make_room_too(self) -> None:
+        # The same in a mirror: p moves by one site to the left.
+        sites = (("p", 3), ("q", 0), ("r", 6))
+        nets = [(name, 200 * site + 200, 1000) for name, site in sites for _ in range(2)]
+        text = two_rows(8, {**{name: (site, 0) for name, site in sites}, "c": (4, 1)}, [*nets, ("c", 1000, 1000)])
+        report = self.improve(text)
+        self.assertEqual((report[-1]["doubled_before"], report[-1]["doubled"], report[-1]["moved"]), (4000, 800, 2))
+        new = self.places()[1]
+        self.assertEqual([new[name][:2] for name in "pqrc"], [(400, 0), (0, 0), (1200, 0), (800, 0)])
+
+    def test_a_cell_goes_to_cells_of_other_teams(self) -> None:
+        # u of the fence A is joined to w outside of it, which is not improved.
+        text = two_rows(20, {"u": (0, 0), "w": (18, 0)}, [("u", 200, 1000)])
+        text = text.replace("- n0 ( u A ) ( PIN p0 ) ;", "- n0 ( u A ) ( w A ) ;").replace("+ NET n0 ", "+ NET n1 ")
+        fence = "REGIONS 1 ;\n- A ( 0 0 ) ( 2000 4000 ) + TYPE FENCE ;\nEND REGIONS\nCOMPONENTS "
+        text = text.replace("\nCOMPONENTS ", f"\n{fence}", 1)
+        text = text.replace("END NETS\n", "END NETS\nGROUPS 1 ;\n- ga u + REGION A ;\nEND GROUPS\n")
+        report = self.improve(text, "--team", "A")
+        self.assertEqual((report[0]["crossing_before"], report[0]["crossing"]), (3600, 2000))
+        self.assertEqual(self.places()[1], {"u": (1600, 0, "N"), "w": (3600, 0, "N")})
 
     def test_the_pins_of_the_fullest_bins_are_counted(self) -> None:
         report = self.improve(Chip(2, 20, 40).text())

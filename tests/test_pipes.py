@@ -7,6 +7,7 @@ from __future__ import annotations
 
 import os
 import select
+import socket
 import subprocess
 import unittest
 from pathlib import Path
@@ -91,6 +92,21 @@ class Replies(unittest.TestCase):
                 self.assertEqual(session.reply(line), reply)
         finally:
             self.assertEqual(session.end(), (0, ""))
+
+
+class Writes(unittest.TestCase):
+    """Standard output that is a socket: what one write sends is one packet."""
+
+    def test_a_report_takes_few_writes(self) -> None:
+        for task in ("check", "describe", "wirelength", "repair", "improve"):
+            reader, writer = socket.socketpair(socket.AF_UNIX, socket.SOCK_SEQPACKET)
+            with self.subTest(task), reader:
+                with writer:
+                    status = run([task, *DESIGN], start=Start(stdout=writer.fileno()))[0]
+                self.assertIn(status, (0, 4))
+                packets = list(iter(lambda: reader.recv(100_000), b""))
+                self.assertTrue(packets)
+                self.assertLessEqual(len(packets), 4)
 
 
 class Closed(unittest.TestCase):

@@ -110,6 +110,37 @@ class Promises(InFolder):
         self.assertTrue(line["pushed"])
         self.assertLessEqual(line["largest"], 18_000)
 
+    def test_a_cell_outside_the_rows_of_its_team_is_near_if_it_is_at_their_edge(self) -> None:
+        # The four cells are 50 rows below the row. So no step lets the wide one move, which is in their way.
+        below = {f"x{cell}": "w1 + PLACED ( 1600 -100000 ) N" for cell in range(4)}
+        self.old.write_text(design(24, {"l": "w6 + PLACED ( 1200 0 ) N", **below}))
+        lines = self.folder / "lines.txt"
+        line = self.repair("--effort", "0", "--lines", str(lines))
+        self.assertEqual((line["kept"], line["moved"], line["largest"]), (1, 4, 101_000))
+        self.assertNotIn(" l ", lines.read_text())
+
+    def test_cells_without_a_place_are_placed_the_widest_first(self) -> None:
+        # The wide one fits only into the gap that is nearer to the corner.
+        self.old.write_text(design(10, {"l": "w2 + PLACED ( 1200 0 ) N", "small": "w2", "wide": "w6"}))
+        self.assertEqual(self.repair("--keep")["left"], [])
+
+    def test_legal_cells_of_several_rows_stay(self) -> None:
+        cells = {"l": "tall + PLACED ( 2400 0 ) N", **{f"x{cell}": "w1 + PLACED ( 2400 -2000 ) N" for cell in range(8)}}
+        self.old.write_text(design(30, cells, rows=2))
+        for options in ((), ("--all",), ("--all", "--effort", "20")):
+            line = self.repair(*options)
+            self.assertEqual((line["cells"], line["kept"], line["pushed"], line["left"]), (8, 1, 0, []), options)
+
+    def test_a_plan_keeps_the_padding(self) -> None:
+        # The row has room for the three cells with a site between them. a leaves its place, so that b keeps its own.
+        cells = {name: f"w2 + PLACED ( {200 * site} 0 ) N" for name, site in (("a", 1), ("b", 3), ("c", 6))}
+        self.old.write_text(design(8, cells))
+        done = run(["replay", *self.texts, "--save", str(self.begin)], "open -\npad - 0 1\nclose - 0\n")
+        self.assertEqual((done[0], done[2]), (0, ""))
+        for options in ((), ("--keep",)):
+            line = self.repair("--state", str(self.begin), *options)
+            self.assertEqual((line["left"], line["kept"], line["total"]), ([], 1, 200), options)
+
     def test_no_legal_cell_is_left(self) -> None:
         # x can only be where the legal cells are.
         cells = {"wide": "w6 + PLACED ( 0 0 ) N", "x": "w1 + PLACED ( 0 -2000 ) N", "y": "w2 + PLACED ( 0 -2000 ) N"}

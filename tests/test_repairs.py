@@ -7,6 +7,7 @@ repair finds.
 from __future__ import annotations
 
 import json
+import os
 import re
 import subprocess
 import unittest
@@ -164,6 +165,29 @@ class Repairs(InFolder):
         begun = progress("A", 1, 0) + progress("B", 2, teams.count("A"))
         begun += progress("-", 3, teams.count("A") + teams.count("B"))
         self.assertEqual(slowly, (0, run(words)[1], begun))
+
+    def test_on_a_terminal_it_says_how_far_it_is_after_two_seconds(self) -> None:
+        self.text.write_text(design({}))
+        hastened = {**preloading("hasten.c", self.folder), "HASTEN": "2500"}
+        words = [str(PROGRAM), "repair", str(self.text), str(LEF)]
+        control, terminal = os.openpty()
+        with open(control, "rb", buffering=0) as screen:
+            ran = subprocess.run(words, stdout=subprocess.PIPE, stderr=terminal, env=hastened, timeout=PATIENCE)
+            os.close(terminal)
+            said = screen.read(1_000).decode().splitlines()
+        self.assertEqual((ran.returncode, [line.split(":")[1] for line in said]), (0, [
+            f' repairing "{team}", team {number} of 3' for number, team in enumerate(("A", "B", "-"), 1)
+        ]))
+        self.assertEqual(run(words[1:], start=Start(environment=hastened))[2], "")
+
+    def test_it_says_the_whole_name_of_a_team(self) -> None:
+        name = "team_of_a_long_name"
+        fence = "- A ( 0 0 ) ( 4000 4000 ) + TYPE FENCE ;"
+        changes = {fence: fence.replace("A", name), "- ga a* + REGION A ;": f"- ga a* + REGION {name} ;"}
+        self.text.write_text(design(changes))
+        hastened = {**preloading("hasten.c", self.folder), "HASTEN": "15000"}
+        said = run(["repair", str(self.text), str(LEF)], start=Start(environment=hastened))[2]
+        self.assertEqual(said.splitlines()[0], f'lefence: repairing "{name}", team 1 of 3: 0 commands so far')
 
     def test_one_of_a_large_team_says_how_far_it_is_every_ten_seconds(self) -> None:
         # The clock is read once in 1,024 commands. It is then 2.5 seconds later, or a little more if the test's
@@ -424,6 +448,33 @@ class Repairs(InFolder):
             said = f"lefence: File\nlefence: {word} file {missing} cannot be written: there is no such folder\n"
             self.assertEqual(run(words), (3, "", said))
         self.assertEqual(self.names(), ["old.def"])
+
+    def test_the_first_of_the_files_that_cannot_be_written_is_reported(self) -> None:
+        self.text.write_text(design(PLACED_CELLS))
+        kinds = {"export": "export", "export-working": "working export", "lines": "lines", "save": "state"}
+        missing = {option: self.folder / "no" / option for option in kinds}
+        options = list(kinds)
+        for number, option in enumerate(options):
+            words = ["repair", str(self.text), str(LEF)]
+            for later in reversed(options[number:]):
+                words += [f"--{later}", str(missing[later])]
+            path = f"{kinds[option]} file {missing[option]}"
+            said = f"lefence: File\nlefence: {path} cannot be written: there is no such folder\n"
+            self.assertEqual(run(words), (3, "", said))
+
+    def test_places_of_any_team_that_are_not_committed_are_noted(self) -> None:
+        # b1 and b2 overlap, and the fence of B has room for one of them.
+        cell = "- b1 INV ;"
+        changes = {
+            **PLACED_CELLS,
+            cell: "- b1 INV + PLACED ( 6000 0 ) N ;\n- b2 INV + PLACED ( 6200 0 ) N ;",
+            "COMPONENTS 5 ;": "COMPONENTS 6 ;",
+            "- gb b1 + REGION B ;": "- gb b* + REGION B ;",
+            "- B ( 6000 0 ) ( 10000 8000 ) + TYPE FENCE ;": "- B ( 6000 0 ) ( 6400 2000 ) + TYPE FENCE ;",
+        }
+        status, report = self.repair(changes, "--export", str(self.new), note=self.alone())
+        self.assertEqual((status, report[-1]["left_cells"]), (4, 1))
+        self.assertIn(report[1]["left"], (["b1"], ["b2"]))
 
     def test_the_working_places_are_written_if_a_team_cannot_be_committed(self) -> None:
         working = self.folder / "working.def"

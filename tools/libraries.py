@@ -79,7 +79,8 @@ GROUPS = {
     "state": Group("lf_state_*", "the text of a saved state, written and read, and several states gathered"),
     "journal": Group(
         "lf_journal lf_journal_*",
-        "the journal of a hub. `_text` is its text, `lf_journal` puts batches on a disk, `_file` is a file as a disk."
+        "the journal of a hub. `_text` is its text, `lf_journal` puts batches on a disk, `_file` is a file as a disk,"
+        " and `_run` runs the records of a journal on a floor."
         " No program uses these crates yet: the journal of today's hub is `front/lefence/journal`",
     ),
     "repairs": Group(
@@ -103,10 +104,11 @@ GROUPS = {
     "laws": Group("lf_laws_*", "theorems over several crates, without code"),
     "tasks": Group(
         "lf_task_* lf_app lefence",
-        "tasks over files. `_faults` prints faults, `_designs` opens designs, `_files` has `check`, `describe` and what"
-        " the other tasks share, `_reports` makes the reports of wire lengths, repairs and improvements, and `_run`"
-        " runs a work on a floor. `_wires`, `_serve`, `_repair` and `_improve` are the other tasks. `lf_app` selects"
-        " the task, and `lefence` is the program",
+        "tasks over files. `_usage` prints help and messages about wrong words, `_faults` prints faults, `_designs`"
+        " opens designs, `_files` has `check`, `describe` and what the other tasks share, `_reports` makes the reports"
+        " of wire lengths, repairs and improvements, and `_run` runs a work on a floor. `_wires`, `_serve`, `_repair`"
+        " and `_improve` are the other tasks. `lf_app` does what the words of a command line request, and `lefence` is"
+        " the program",
     ),
     "tests": Group("lf_tests_* lefence_rows lefence_bench", "tests in code, worked rows, and the bench of loading"),
 }
@@ -277,10 +279,16 @@ RULES = (
         "Nets only advise a repair where its cells without a place may go.",
     ),
     Rule(
-        "journal",
+        "journal -lf_journal_run",
         Kind.INDEPENDENT,
         "all -lf_journal -lf_journal_text",
         "A journal keeps lines and replies, whatever they mean, so a crash is understood without a floor.",
+    ),
+    Rule(
+        "lf_journal_run",
+        Kind.INDEPENDENT,
+        "readers loading files tasks repairs wires",
+        "A journal is run on any floor, wherever it comes from.",
     ),
     Rule("io", Kind.INDEPENDENT, "all", "Devices and files are at the bottom, and any group may name `Output`."),
     Rule(
@@ -296,8 +304,8 @@ RULES = (
         "A command is answered the same over a socket, a pipe or a file.",
     ),
     Rule(
-        "lf_task_faults lf_task_designs lf_task_files lf_task_wires lf_task_run lf_task_serve lf_task_repair"
-        " lf_task_improve lf_app lefence",
+        "lf_task_usage lf_task_faults lf_task_designs lf_task_files lf_task_wires lf_task_run lf_task_serve"
+        " lf_task_repair lf_task_improve lf_app lefence",
         Kind.ORDERED,
         "",
         "What tasks share is below them. `lf_task_repair` and `lf_task_improve` are works that `lf_task_run` runs.",

@@ -1,45 +1,43 @@
-//! The program `lefence`: it passes its words and the standard streams to `lf_app`.
+//! The program `lefence`: it passes its words and its devices to `lf_app::run_program`, and ends with the status that
+//! this returns.
 //!
-//! Its exit status is that of the task (`lf_app::perform_over`). If the words name no task, it
-//! prints the help that they request, with status 0, or else how to get it, with status 2. The
-//! status is 1 if an allocation for the words fails, and 3 if the help cannot be written.
-//!
-//! If the reader of a report, a description or a help text closes the pipe early, as `head` does,
-//! the status is 3 without a message.
+//! What remains here is what depends on the terminal: how often progress is reported, and a note that lines are
+//! awaited. If the reader of a report, a description or a help text closes the pipe early, as `head` does, the status
+//! is 3 without a message.
 //!
 //! Modules, in reading order:
 //!
-//! - `help`: the help texts
 //! - `closed_pipe`: standard output whose reader may have gone away
 #![tactic(auto)]
 
 mod closed_pipe;
-mod help;
 
 use crate::closed_pipe::{MessageWriter, WatchedWriter};
-use crate::help::{HINT, SUBCOMMAND_HINT, WAITING, texts_of};
 use lf_app::{
-    Environment, FromRead, FsInputFiles, FsOutputFiles, Help, NetListener, Task, TaskExit,
-    TimedProgress, ToWrite, UsageFault, perform_over,
+    Environment, FromRead, FsInputFiles, FsOutputFiles, NetListener, TimedProgress, ToWrite,
+    UsageFault, run_program,
 };
-use std::alloc::{AllocError, Global};
+use std::alloc::AllocError;
 use std::cell::Cell;
 use std::io;
-use std::io::{IsTerminal, Write};
+use std::io::IsTerminal;
 use std::process::ExitCode;
 use std::time::Duration;
 
-/// Returns the exit status if the words name no task, or an allocation for them failed.
-fn usage_status(fault: &UsageFault) -> u8 {
-    match fault {
-        UsageFault::Usage => 2,
-        UsageFault::OutOfMemory => 1,
-    }
-}
+/// What is printed on a terminal when the program waits for lines over the built-in design.
+const WAITING: &str =
+    "lefence: waiting for lines over the built-in design, for example: open A (end with Ctrl-D; lefence --help lists the subcommands)
+";
+
+/// The seconds between progress messages of a repair or an improvement on a terminal.
+const PAUSE_ON_A_TERMINAL: u64 = 2;
+
+/// The seconds between progress messages in a file or a pipe.
+const PAUSE: u64 = 10;
 
 /// Returns the words of the command line. `Err(Usage)` if a word is no text, `Err(OutOfMemory)` if
 /// an allocation fails.
-fn words(rt: &HostRuntime) -> Result<Vec<String>, UsageFault> {
+fn words_of(rt: &HostRuntime) -> Result<Vec<String>, UsageFault> {
     let words = match std::env::args(rt) {
         Ok(words) => words,
         Err(error) if error.kind() == io::ErrorKind::OutOfMemory => {
@@ -52,74 +50,36 @@ fn words(rt: &HostRuntime) -> Result<Vec<String>, UsageFault> {
         .map_err(|_: AllocError| UsageFault::OutOfMemory)
 }
 
-/// Borrows the words. `Err(OutOfMemory)` if an allocation fails.
-fn borrowed_view(alloc: Global, words: &[String]) -> Result<Vec<&str>, UsageFault> {
-    let mut texts = Vec::new(alloc);
-    for word in words {
-        if texts.push(word.as_str()).is_err() {
-            return Err(UsageFault::OutOfMemory);
-        }
-    }
-    Ok(texts)
-}
-
-/// Writes the requested help to standard output.
-fn put_help(rt: &HostRuntime, help: Help) -> io::Result<()> {
-    let mut writer = io::writer(rt);
-    for text in texts_of(help) {
-        writer.write_all(text.as_bytes())?;
-    }
-    writer.flush()
-}
-
-/// Prints the requested help, and returns the exit status.
-fn show(rt: &HostRuntime, help: Help) -> u8 {
-    match put_help(rt, help) {
-        Ok(()) => 0,
-        Err(error) => {
-            if error.kind() != io::ErrorKind::BrokenPipe {
-                let _ = eprintln!(rt; "lefence: Output");
-            }
-            3
-        }
+/// Returns the word at this position, or an empty one if there is none.
+fn word_at(words: &[String], position: usize) -> &str {
+    match words.get(position) {
+        Some(word) => word.as_str(),
+        None => "",
     }
 }
 
-/// Prints which word is wrong or missing, and what is allowed: the lines of the parser's message in
-/// front of its own usage.
-fn complain(rt: &HostRuntime, words: &[&str]) {
-    let Ok(Some(said)) = lf_app::usage_message(rt.alloc(), words) else {
-        return;
-    };
-    for line in said.as_str().lines() {
-        if line.starts_with("Usage:") || line.starts_with("For more") {
-            return;
-        }
-        let line = line.trim();
-        let reported = line.strip_prefix("error: ").unwrap_or(line);
-        if !reported.is_empty() {
-            let _ = eprintln!(rt; "lefence: {reported}");
-        }
-    }
+/// Whether the words only have something written to standard output: a report, a description, lengths or
+/// help. If nobody reads that any more, nothing is lost.
+fn only_writes(words: &[String]) -> bool {
+    let subcommand = word_at(words, 1);
+    let option = word_at(words, words.len().saturating_sub(1));
+    let has_few = words.len() <= 3;
+    let is_help = option == "--help" || option == "-h" || option == "--version";
+    let is_report = subcommand == "check" || subcommand == "describe" || subcommand == "wirelength";
+    is_report || has_few && is_help
 }
 
-/// Handles words that name no task: prints the requested help or the fault. Returns the exit
-/// status.
-fn answer(rt: &HostRuntime, words: &[&str], fault: UsageFault) -> u8 {
-    match lf_app::help_of(words) {
-        Some(help) if matches!(fault, UsageFault::Usage) => show(rt, help),
-        _ => {
-            report_it(rt, &fault, words);
-            usage_status(&fault)
-        }
-    }
+/// Whether the words name the demo.
+fn is_demo(words: &[String]) -> bool {
+    words.len() <= 1 || words.len() == 2 && word_at(words, 1) == "demo"
 }
 
-/// The seconds between progress messages of a repair or an improvement on a terminal.
-const PAUSE_ON_A_TERMINAL: u64 = 2;
-
-/// The seconds between progress messages in a file or a pipe.
-const PAUSE: u64 = 10;
+/// Says on a terminal that the program waits for lines: somebody may have typed its name alone.
+fn say_what_is_awaited(rt: &HostRuntime, words: &[String]) {
+    if is_demo(words) && rt.stdin().is_terminal() {
+        let _ = eprint!(rt; "{WAITING}");
+    }
+}
 
 /// The time between progress messages.
 fn pause(rt: &HostRuntime) -> Duration {
@@ -129,88 +89,34 @@ fn pause(rt: &HostRuntime) -> Duration {
     Duration::from_secs(PAUSE)
 }
 
-/// Says on a terminal that the program waits for lines: somebody may have typed its name alone.
-fn say_what_is_awaited(rt: &HostRuntime, task: &Task<'_>) {
-    if matches!(task, Task::Demo) && rt.stdin().is_terminal() {
-        let _ = eprint!(rt; "{WAITING}");
-    }
-}
-
-/// Whether the task only writes to standard output. If nobody reads that any more, nothing is lost.
-fn only_writes(task: &Task<'_>) -> bool {
-    matches!(
-        task,
-        Task::Check { .. } | Task::Describe { .. } | Task::Wirelength { .. }
-    )
-}
-
-/// Does the task over the files, the network and the standard streams.
-fn perform(rt: &HostRuntime, task: &Task<'_>) -> TaskExit {
+fn main(rt: HostRuntime) -> ExitCode {
+    let words = words_of(&rt);
+    let is_silent = match &words {
+        Ok(words) => {
+            say_what_is_awaited(&rt, words);
+            only_writes(words)
+        }
+        Err(_) => false,
+    };
     let closed = Cell::new(false);
     let mut reader = rt.reader();
     let mut writer = WatchedWriter {
-        writer: io::writer(rt),
+        writer: io::writer(&rt),
         closed: &closed,
     };
     let mut faults = MessageWriter {
         writer: rt.stderr(),
         closed: &closed,
-        is_silent: only_writes(task),
+        is_silent,
     };
     let mut environment = Environment::new(
-        FsInputFiles::new(rt),
-        FsOutputFiles::new(rt),
-        NetListener::new(rt),
+        FsInputFiles::new(&rt),
+        FsOutputFiles::new(&rt),
+        NetListener::new(&rt),
         FromRead::new(&mut reader),
         ToWrite::new(&mut writer),
         ToWrite::new(&mut faults),
-        TimedProgress::new(rt.alloc(), rt, pause(rt), rt.stderr()),
+        TimedProgress::new(rt.alloc(), &rt, pause(&rt), rt.stderr()),
     );
-    perform_over(rt.alloc(), &mut environment, task)
-}
-
-/// Does the task that the words name, and returns the exit status.
-fn run(rt: &HostRuntime) -> Result<u8, UsageFault> {
-    let words = words(rt)?;
-    let texts = borrowed_view(rt.alloc(), words.as_slice())?;
-    let task = match lf_app::command_of(rt.alloc(), texts.as_slice()) {
-        Ok(task) => task,
-        Err(fault) => return Ok(answer(rt, texts.as_slice(), fault)),
-    };
-    say_what_is_awaited(rt, &task);
-    Ok(perform(rt, &task).status)
-}
-
-/// Prints how to get help: for the subcommand that the words name, if there is one.
-fn hint(rt: &HostRuntime, words: &[&str]) {
-    let _ = eprint!(rt; "{HINT}");
-    let word = words.get(1).copied().unwrap_or("");
-    match lf_app::help_of(&["lefence", word, "--help"]) {
-        Some(_) => {
-            let _ = eprintln!(rt; "  lefence {word} --help   what it does, with an example");
-        }
-        None => {
-            let _ = eprint!(rt; "{SUBCOMMAND_HINT}");
-        }
-    }
-}
-
-/// Prints a usage fault of these words, and how to get help. A failure to write it is no further
-/// fault.
-fn report_it(rt: &HostRuntime, fault: &UsageFault, words: &[&str]) {
-    let _ = eprintln!(rt; "lefence: {fault}");
-    if matches!(fault, UsageFault::Usage) {
-        complain(rt, words);
-        hint(rt, words);
-    }
-}
-
-fn main(rt: HostRuntime) -> ExitCode {
-    match run(&rt) {
-        Ok(status) => ExitCode::from(status),
-        Err(fault) => {
-            report_it(&rt, &fault, &[]);
-            ExitCode::from(usage_status(&fault))
-        }
-    }
+    ExitCode::from(run_program(rt.alloc(), &mut environment, &words))
 }

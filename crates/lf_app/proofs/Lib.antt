@@ -1,2 +1,3 @@
 mod Performing
+mod Running
 mod TaskSteps

@@ -21,7 +21,7 @@ use Rattle.lf_task_files.specs.declared.inputs.DesignInput.{DesignInput}
 use Rattle.lf_task_run.specs.Tasks.{IsTaskDone, IsTaskNotDone, Means, Request, request_of}
 use Rattle.lf_task_run.specs.Outputs.{BlamesOutputs}
 use Rattle.lf_task_run.specs.declared.task.Job.{Job as FloorJob}
-use Rattle.lf_app.specs.JobFiles.{IsInputAt, request_at}
+use Rattle.lf_app.specs.Requests.{IsInputAt, request_at}
 
 -- The status of a fault is that of a task that failed.
 pub failing : (fault : Fault) (status : ℕ) → status ≡ status_of fault → IsFailure status

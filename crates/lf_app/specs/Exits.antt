@@ -17,59 +17,14 @@ use Rattle.lf_task_files.specs.States.{IsFloorFault, IsViewedDesignOf}
 use Rattle.lf_task_files.specs.Exits.{IsOpenDescribed, IsOpenUndescribed, IsReported}
 use Rattle.lf_task_serve.specs.Exits.{AnswersInput, EndsWithFault, IsJobStop, IsLinesFault, IsOffered, IsServiceFault, IsUndone, IsServedDesign, Streams}
 use Rattle.lf_task_wires.specs.Wirelengths.{IsMeasured, IsNotMeasured}
-use Rattle.lf_task_run.specs.Outputs.{WritesExportAlone, WritesNoFile}
 use Rattle.lf_task_run.specs.Tasks.{IsTaskDone, IsTaskNotDone}
 use Rattle.lf_task_repair.specs.Repairs.{repair_means}
 use Rattle.lf_task_improve.specs.Works.{improve_means}
-use Rattle.lf_app.specs.JobFiles.{request_at}
+use Rattle.lf_app.specs.Requests.{requests_of, request_at}
 
 -- A task ends with a fault of this kind.
 abbrev pub EndsTask : (Fault → Type 0) → Option (List ℕ) → Option (List ℕ) → Bool → TaskExit → Type 0
 EndsTask why old new failed exit = (fault : Fault) × why fault × EndsWith fault old new failed exit
-
--- A job that requests no file but the exported text: nothing is written after it.
-abbrev pub NamesNoState : Job → Type 0
-NamesNoState (replay def lefs state slots lines save export) = save ≡ None
-NamesNoState (serve def lefs state slots port connections save export) = save ≡ None
-NamesNoState (repair def lefs state slots teams options files) = WritesExportAlone files
-NamesNoState (improve def lefs slots teams within options files) = WritesExportAlone files
-NamesNoState job = Unit {0}
-
--- A job that requests no text to be written to a file.
-abbrev pub NamesNoFile : Job → Type 0
-NamesNoFile (replay def lefs state slots lines save export) = (save ≡ None) × (export ≡ None)
-NamesNoFile (serve def lefs state slots port connections save export) = (save ≡ None) × (export ≡ None)
-NamesNoFile (repair def lefs state slots teams options files) = WritesNoFile files
-NamesNoFile (improve def lefs slots teams within options files) = WritesNoFile files
-NamesNoFile job = Unit {0}
-
--- A job that neither repairs nor improves: no progress is reported.
-abbrev pub RepairsNothing : Job → Type 0
-RepairsNothing (repair def lefs state slots teams options files) = ⊥
-RepairsNothing (improve def lefs slots teams within options files) = ⊥
-RepairsNothing job = Unit {0}
-
--- A job that reads nothing from standard input.
-abbrev pub ReadsNoInput : Job → Type 0
-ReadsNoInput demo = ⊥
-ReadsNoInput (replay def lefs state slots lines save export) = ⊥
-ReadsNoInput job = Unit {0}
-
--- The number of session slots of each team of a job's design.
-abbrev pub job_slots : Job → ℕ
-job_slots (check def lefs state slots committed) = slots
-job_slots (describe def lefs state slots) = slots
-job_slots (wirelength def lefs state slots) = slots
-job_slots (replay def lefs state slots lines save export) = slots
-job_slots (serve def lefs state slots port connections save export) = slots
-job_slots (repair def lefs state slots teams options files) = slots
-job_slots (improve def lefs slots teams within options files) = slots
-job_slots _ = 8
-
--- The most lines of its input that a job answers.
-abbrev pub reads_of : Job → ℕ
-reads_of (replay def lefs state slots lines save export) = lines
-reads_of _ = default_most_lines
 
 -- The outcome of a job that succeeds on a design within these limits, with this status.
 abbrev pub IsOutcomeWithin : Limits → ReadsFile → Job → Streams → ℕ → Type 0
@@ -101,7 +56,7 @@ IsOutcomeWithin limits gives (improve def lefs slots teams within options files)
 
 -- The outcome of a job that succeeds, with this status.
 abbrev pub IsJobOutcome : ReadsFile → Job → Streams → ℕ → Type 0
-IsJobOutcome gives job io status = (limits : Limits) × AreWithSlots (job_slots job) limits
+IsJobOutcome gives job io status = (limits : Limits) × AreWithSlots (requests_of job).slots limits
     × IsOutcomeWithin limits gives job io status
 
 -- ---- faults
@@ -138,5 +93,5 @@ IsJobFaultWithin limits gives (improve def lefs slots teams within options files
 
 -- Why a job fails.
 abbrev pub IsJobFault : ReadsFile → Job → Fault → Streams → Type 0
-IsJobFault gives job fault io = (limits : Limits) × AreWithSlots (job_slots job) limits
+IsJobFault gives job fault io = (limits : Limits) × AreWithSlots (requests_of job).slots limits
     × IsJobFaultWithin limits gives job fault io

@@ -1,3 +1,4 @@
 pub mod Exits
-pub mod JobFiles
 pub mod Offers
+pub mod Program
+pub mod Requests

@@ -1,12 +1,14 @@
-//! Performs the program's tasks, one for each command.
+//! Does what the words of a command line request: a task, help, or a message about wrong words.
 //!
-//! `perform` does a `Task` over the files and the network of a runtime. `perform_over` does it over
-//! any input files (`InputFiles`), output files (`OutputFiles`), services (`PortListener`) and
-//! other devices. Its contract states what was done with each of them. `Task`, `UsageFault`,
-//! `command_of`, `Help` and `help_of` come from `lf_cli`. `InputFiles` comes from
-//! `lf_task_designs`, which reads and loads designs. `Fault` and `TaskExit` come from
-//! `lf_task_faults`, which prints faults. `PortListener` and `serve_lines_within` come from
-//! `lf_task_serve`, and `Progress` from `lf_task_run`.
+//! `run_program` does it over any input files (`InputFiles`), output files (`OutputFiles`), services (`PortListener`)
+//! and other devices. Its contract (`IsProgramRun`) states what was read, printed and written, and the status.
+//! `perform_over` does a `Task` over such devices, and `perform` does it over the files and the network of a runtime.
+//! `Task` and `UsageFault` come from `lf_cli`. `InputFiles` comes from `lf_task_designs`, which reads and loads
+//! designs. `Fault` and `TaskExit` come from `lf_task_faults`, which prints faults. `PortListener` and
+//! `serve_lines_within` come from `lf_task_serve`, and `Progress` from `lf_task_run`.
+//!
+//! If the words name no task, help or the version is printed with status 0, or a message with status 2. The status is 1
+//! if an allocation for the words fails, and 3 if the help cannot be written.
 //!
 //! Status 0 or 4: the task succeeded, and no fault is written. The design is that of the LEF files,
 //! in the order of the words, and of the DEF file. Its limits are the standard ones, except the
@@ -55,6 +57,7 @@
 //! Modules, in reading order:
 //!
 //! - `tasks`: what the program does for each task
+//! - `program`: what it does for the words of its command line
 //!
 //! From `crates/lf_tests_app/src/tasks.rt`:
 //!
@@ -63,12 +66,10 @@
 //! ```
 #![tactic(auto)]
 
+mod program;
 mod tasks;
 
-pub use lf_cli::{
-    Help, ImproveOptions, LegalCells, RepairFiles, RepairOptions, Slots, Subcommand, Task,
-    UsageFault, command_of, help_of, usage_message,
-};
+pub use lf_cli::{ImproveOptions, LegalCells, RepairFiles, RepairOptions, Slots, Task, UsageFault};
 pub use lf_io::{FromRead, FsOutputFiles, ToWrite};
 pub use lf_server::{Acceptor, ClientReader, ClientWriter, Connection, ServiceConfig};
 pub use lf_task_designs::{FsInputFiles, InputFiles, single_chunk};
@@ -80,4 +81,5 @@ pub use lf_task_run::{NoProgress, Progress, TimedProgress};
 pub use lf_task_serve::{
     Devices, DevicesOf, Environment, NetListener, PortListener, Shows, serve_lines_within,
 };
+pub use program::run_program;
 pub use tasks::{perform, perform_over};

@@ -10,12 +10,13 @@ ghost use Rattle.lf_task_faults.specs.Faults.{IsEarly};
 ghost use Rattle.lf_task_serve.specs.Exits.{AnswersInput, IsJobStop, IsLinesFault, streams_alone};
 ghost use Rattle.lf_task_files.specs.Faults.{IsDone, IsFailure};
 ghost use Rattle.lf_task_files.specs.Inputs.{path_of};
+ghost use Rattle.lf_task_run.specs.Outputs.{WritesExportAlone, WritesNoFile};
 ghost use Rattle.lf_task_serve.specs.Faults.{BlamesStreams};
 ghost use Rattle.lf_task_serve.specs.Lines.{default_most_lines};
 ghost use Rattle.lf_task_serve.specs.Surroundings.{BlamesEnvironment, IsReady, KeepsStreams, streams_of};
-ghost use Rattle.lf_app.specs.Exits.{NamesNoFile, NamesNoState, EndsTask, IsJobFault, IsJobFaultWithin, IsJobOutcome, IsOutcomeWithin, ReadsNoInput, RepairsNothing, reads_of, job_slots};
-ghost use Rattle.lf_app.specs.JobFiles.{AreOutputsOf, IsInputAt, IsInputOf};
+ghost use Rattle.lf_app.specs.Exits.{EndsTask, IsJobFault, IsJobFaultWithin, IsJobOutcome, IsOutcomeWithin};
 ghost use Rattle.lf_app.specs.Offers.{IsOfferOf};
+ghost use Rattle.lf_app.specs.Requests.{AreOutputsOf, IsInputAt, IsInputOf, requests_of};
 
 use lf_cli::{ImproveOptions, RepairFiles, RepairOptions, Slots, Task};
 use lf_def::DEMO_DEF;
@@ -86,7 +87,7 @@ fn input_at<'a>(
 /// Returns the files that the task reads, with these limits. The paths are empty for the demo, which
 /// reads no file.
 fn input_of<'a>(task: &'a Task<'_>, limits: Limits) -> DesignInput<'a>
-    ensures { IsInputOf limits (as_job task.now) result }
+    ensures { IsInputOf limits (requests_of (as_job task.now)) result }
 {
     match task {
         Task::Demo => input_at("", &[], None, limits),
@@ -194,20 +195,23 @@ fn outcome_within<'a, D: Devices>(
         IfErr result (λ fault. IsJobFaultWithin limits (D.Texts.gives environment.old.texts) (as_job task.now) fault
         (streams_of (io environment.old) (io environment.new))
         × BlamesEnvironment
-        (reads_of (as_job task.now)) (environment.new.writer ≡ environment.old.writer)
+        (requests_of (as_job task.now)).lines (environment.new.writer ≡ environment.old.writer)
         (io environment.old) (io environment.new) fault) }
-    ensures unread { ReadsNoInput (as_job task.now) → environment.new.reader ≡ environment.old.reader }
+    ensures unread { (requests_of (as_job task.now)).reads_input ≡ false
+        → environment.new.reader ≡ environment.old.reader }
     ensures unput { let io = ⟦<Environment<D> as Shows>⟧.io in
-        NamesNoState (as_job task.now)
+        WritesExportAlone (requests_of (as_job task.now)).files
         → OnErr result ((io environment.new).puts ≡ (io environment.old).puts) }
-    ensures unasked { NamesNoFile (as_job task.now) → environment.new.exports ≡ environment.old.exports }
+    ensures unasked { WritesNoFile (requests_of (as_job task.now)).files
+        → environment.new.exports ≡ environment.old.exports }
     ensures offered { let io = ⟦<Environment<D> as Shows>⟧.io in
         OnOk result
         (IsOfferOf (as_job task.now) (io environment.old).offers (io environment.new).offers) }
     ensures unoffered { let io = ⟦<Environment<D> as Shows>⟧.io in
         ((io environment.new).offers ≡ (io environment.old).offers)
         ⊎ IsOfferOf (as_job task.now) (io environment.old).offers (io environment.new).offers }
-    ensures silent { RepairsNothing (as_job task.now) → environment.new.progress ≡ environment.old.progress }
+    ensures silent { (requests_of (as_job task.now)).shows_progress ≡ false
+        → environment.new.progress ≡ environment.old.progress }
     ensures texts { environment.new.texts ≡ environment.old.texts }
     ensures unreported { environment.new.faults ≡ environment.old.faults }
     ensures keeps { let io = ⟦<Environment<D> as Shows>⟧.io in KeepsStreams (io environment.old) (io environment.new) }
@@ -304,7 +308,7 @@ fn outcome_within<'a, D: Devices>(
 
 /// Returns the session slots of each team of the task's design.
 fn slots_of(task: &Task<'_>) -> Slots
-    ensures { result.number ≡ job_slots (as_job task.now) }
+    ensures { result.number ≡ (requests_of (as_job task.now)).slots }
 {
     match task {
         Task::Check { slots, .. } => *slots,
@@ -333,20 +337,23 @@ fn outcome<'a, D: Devices>(
         IfErr result (λ fault. IsJobFault (D.Texts.gives environment.old.texts) (as_job task.now) fault
         (streams_of (io environment.old) (io environment.new))
         × BlamesEnvironment
-        (reads_of (as_job task.now)) (environment.new.writer ≡ environment.old.writer)
+        (requests_of (as_job task.now)).lines (environment.new.writer ≡ environment.old.writer)
         (io environment.old) (io environment.new) fault) }
-    ensures unread { ReadsNoInput (as_job task.now) → environment.new.reader ≡ environment.old.reader }
+    ensures unread { (requests_of (as_job task.now)).reads_input ≡ false
+        → environment.new.reader ≡ environment.old.reader }
     ensures unput { let io = ⟦<Environment<D> as Shows>⟧.io in
-        NamesNoState (as_job task.now)
+        WritesExportAlone (requests_of (as_job task.now)).files
         → OnErr result ((io environment.new).puts ≡ (io environment.old).puts) }
-    ensures unasked { NamesNoFile (as_job task.now) → environment.new.exports ≡ environment.old.exports }
+    ensures unasked { WritesNoFile (requests_of (as_job task.now)).files
+        → environment.new.exports ≡ environment.old.exports }
     ensures offered { let io = ⟦<Environment<D> as Shows>⟧.io in
         OnOk result
         (IsOfferOf (as_job task.now) (io environment.old).offers (io environment.new).offers) }
     ensures unoffered { let io = ⟦<Environment<D> as Shows>⟧.io in
         ((io environment.new).offers ≡ (io environment.old).offers)
         ⊎ IsOfferOf (as_job task.now) (io environment.old).offers (io environment.new).offers }
-    ensures silent { RepairsNothing (as_job task.now) → environment.new.progress ≡ environment.old.progress }
+    ensures silent { (requests_of (as_job task.now)).shows_progress ≡ false
+        → environment.new.progress ≡ environment.old.progress }
     ensures texts { environment.new.texts ≡ environment.old.texts }
     ensures unreported { environment.new.faults ≡ environment.old.faults }
     ensures keeps { let io = ⟦<Environment<D> as Shows>⟧.io in KeepsStreams (io environment.old) (io environment.new) }
@@ -400,22 +407,25 @@ pub fn perform_over<D: Devices>(
         → EndsTask (λ fault. IsJobFault (D.Texts.gives environment.old.texts) (as_job task.now) fault
         (streams_of (io environment.old) (io environment.new))
         × BlamesEnvironment
-        (reads_of (as_job task.now)) (environment.new.writer ≡ environment.old.writer)
+        (requests_of (as_job task.now)).lines (environment.new.writer ≡ environment.old.writer)
         (io environment.old) (io environment.new) fault)
         (D.Faults.contents environment.old.faults) (D.Faults.contents environment.new.faults) (D.Faults.has_failed environment.new.faults) result }
     ensures checked { result.status ≡ 4 → ReadsNone task.now }
-    ensures unread { ReadsNoInput (as_job task.now) → environment.new.reader ≡ environment.old.reader }
+    ensures unread { (requests_of (as_job task.now)).reads_input ≡ false
+        → environment.new.reader ≡ environment.old.reader }
     ensures unput { let io = ⟦<Environment<D> as Shows>⟧.io in
-        NamesNoState (as_job task.now) → IsFailure result.status
+        WritesExportAlone (requests_of (as_job task.now)).files → IsFailure result.status
         → (io environment.new).puts ≡ (io environment.old).puts }
-    ensures unasked { NamesNoFile (as_job task.now) → environment.new.exports ≡ environment.old.exports }
+    ensures unasked { WritesNoFile (requests_of (as_job task.now)).files
+        → environment.new.exports ≡ environment.old.exports }
     ensures offered { let io = ⟦<Environment<D> as Shows>⟧.io in
         IsDone result.status
         → IsOfferOf (as_job task.now) (io environment.old).offers (io environment.new).offers }
     ensures unoffered { let io = ⟦<Environment<D> as Shows>⟧.io in
         ((io environment.new).offers ≡ (io environment.old).offers)
         ⊎ IsOfferOf (as_job task.now) (io environment.old).offers (io environment.new).offers }
-    ensures silent { RepairsNothing (as_job task.now) → environment.new.progress ≡ environment.old.progress }
+    ensures silent { (requests_of (as_job task.now)).shows_progress ≡ false
+        → environment.new.progress ≡ environment.old.progress }
     ensures texts { environment.new.texts ≡ environment.old.texts }
     ensures reader_held { D.Reader.holds environment.new.reader ≡ D.Reader.holds environment.old.reader }
     ensures writer_held { D.Writer.holds environment.new.writer ≡ D.Writer.holds environment.old.writer }
@@ -460,7 +470,7 @@ fn perform_with<T: Files + Net + AllocGlobal, R: Source + Drop, W: Sink + Drop, 
         × (IsEarly fault → result.writer ≡ writer))
         (F.contents faults) (F.contents result.faults) (not result.exit.is_printed) result.exit }
     ensures checked { result.exit.status ≡ 4 → ReadsNone task.now }
-    ensures unread { ReadsNoInput (as_job task.now) → result.reader ≡ reader }
+    ensures unread { (requests_of (as_job task.now)).reads_input ≡ false → result.reader ≡ reader }
     ensures reader_held { R.holds result.reader ≡ R.holds reader }
     ensures writer_held { W.holds result.writer ≡ W.holds writer }
     ensures faults_held { F.holds result.faults ≡ F.holds faults }
@@ -511,7 +521,7 @@ pub fn perform<T: Files + Net + AllocGlobal, R: Read, W: Write, F: Write>(
         × (IsEarly fault → writer.new ≡ writer.old))
         (F.contents faults.old) (F.contents faults.new) (not result.is_printed) result }
     ensures checked { result.status ≡ 4 → ReadsNone task.now }
-    ensures unread { ReadsNoInput (as_job task.now) → reader.new ≡ reader.old }
+    ensures unread { (requests_of (as_job task.now)).reads_input ≡ false → reader.new ≡ reader.old }
 {
     let source = FromRead::new(reader);
     let sink = ToWrite::new(writer);

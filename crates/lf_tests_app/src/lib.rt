@@ -8,8 +8,11 @@
 //! - `shelf`: a runtime whose files are in memory
 //! - `tasks`: the tasks, and helpers that run them
 //! - `states`: states that are saved and continued from
+//! - `program`: the program, from the words of its command line to its exit status
 #![tactic(auto)]
 
+#[cfg(test)]
+mod program;
 #[cfg(test)]
 mod shelf;
 #[cfg(test)]

@@ -303,7 +303,7 @@ fn a_line_that_is_no_request_is_refused(rt: HostRuntime) -> Result<(), Fail> {
 
 /// A device whose calls all fail.
 #[derive(Drop)]
-struct Failing;
+pub(crate) struct Failing;
 
 impl Read for Failing {
     fn read(&mut self, _buffer: &mut [u8]) -> io::Result<usize> {

@@ -1,4 +1,4 @@
-use Rattle.std.proofs.Common.{◌≡◌, ◌∙◌, refl, subst, sym, true}
+use Rattle.std.proofs.Common.{◌≡◌, ◌∙◌, false, refl, subst, sym, true}
 use Rattle.lf_task_serve.specs.Lines.{default_most_lines}
 use Rattle.lf_task_serve.proofs.Answering.{streams_blame}
 use Rattle.lf_task_files.proofs.WorkSteps.{also_fails, blames_as, writer_blames}
@@ -70,26 +70,28 @@ returns-in-Wirelength-clause-err g c =
     (λ fault blames. writer_blames fault _ _ _ _ _ _ _ _ blames (λ k. k) (λ same. record { exports = refl; services = refl; reader = refl; writer = same })))
 
 pub returns-in-Replay-clause-unput : goal.returns-in-Replay-clause-unput
-returns-in-Replay-clause-unput g c = λ none.
+returns-in-Replay-clause-unput g c = λ alone.
+    let none = rw c.in-Replay.is at alone in
     let o = rw c.in-Replay.is at c.outputs_of.ensures in
-    c.serve_files.ensures.leaves.unput (o.save_is ∙ (rw c.in-Replay.is at none))
+    c.serve_files.ensures.leaves.unput (o.save_is ∙ none.save)
 
 pub returns-in-Serve-clause-unput : goal.returns-in-Serve-clause-unput
-returns-in-Serve-clause-unput g c = λ none.
+returns-in-Serve-clause-unput g c = λ alone.
+    let none = rw c.in-Serve.is at alone in
     let o = rw c.in-Serve.is at c.outputs_of-in-Serve.ensures in
-    c.serve_files-in-Serve.ensures.leaves.unput (o.save_is ∙ (rw c.in-Serve.is at none))
+    c.serve_files-in-Serve.ensures.leaves.unput (o.save_is ∙ none.save)
 
 pub returns-in-Replay-clause-unasked : goal.returns-in-Replay-clause-unasked
 returns-in-Replay-clause-unasked g c = λ asks.
     let none = rw c.in-Replay.is at asks in
     let o = rw c.in-Replay.is at c.outputs_of.ensures in
-    c.serve_files.ensures.leaves.unasked (o.save_is ∙ none.0) (o.export_is ∙ none.1)
+    c.serve_files.ensures.leaves.unasked (o.save_is ∙ none.save) (o.export_is ∙ none.export)
 
 pub returns-in-Serve-clause-unasked : goal.returns-in-Serve-clause-unasked
 returns-in-Serve-clause-unasked g c = λ asks.
     let none = rw c.in-Serve.is at asks in
     let o = rw c.in-Serve.is at c.outputs_of-in-Serve.ensures in
-    c.serve_files-in-Serve.ensures.leaves.unasked (o.save_is ∙ none.0) (o.export_is ∙ none.1)
+    c.serve_files-in-Serve.ensures.leaves.unasked (o.save_is ∙ none.save) (o.export_is ∙ none.export)
 
 pub returns-in-Demo-clause-err : goal.returns-in-Demo-clause-err
 returns-in-Demo-clause-err g c =
@@ -126,7 +128,7 @@ returns-in-Repair-clause-unasked g c = λ none.
     c.run_task.ensures.unasked (subst WritesNoFile (sym c.job_of-job.ensures.files) (rw c.in-Repair.is at none))
 
 pub returns-in-Repair-clause-silent : goal.returns-in-Repair-clause-silent
-returns-in-Repair-clause-silent g c = λ nothing. absurd (rw c.in-Repair.is at nothing)
+returns-in-Repair-clause-silent g c = λ nothing. let never : true ≡ false = rw c.in-Repair.is at nothing in absurd (cc never)
 
 pub returns-in-Improve-clause-ok : goal.returns-in-Improve-clause-ok
 returns-in-Improve-clause-ok g c =
@@ -156,4 +158,4 @@ returns-in-Improve-clause-unasked g c = λ none.
     c.run_task-in-Improve.ensures.unasked (subst WritesNoFile (sym c.job_of-job-in-Improve.ensures.files) (rw c.in-Improve.is at none))
 
 pub returns-in-Improve-clause-silent : goal.returns-in-Improve-clause-silent
-returns-in-Improve-clause-silent g c = λ nothing. absurd (rw c.in-Improve.is at nothing)
+returns-in-Improve-clause-silent g c = λ nothing. let never : true ≡ false = rw c.in-Improve.is at nothing in absurd (cc never)

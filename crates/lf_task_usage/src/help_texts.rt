@@ -1,23 +1,14 @@
-//! The help texts of the program.
+//! The texts of `--help` and `--version`.
 
-use lf_app::{Help, Subcommand};
+ghost use Rattle.std.specs.Prelude.{◌≡◌, ℕ, OnErr, OnOk, take, true};
+ghost use Rattle.std.specs.Io.KnownBytes.{Appends};
+ghost use Rattle.lf_task_usage.specs.Usage.{help_text, subcommand_text};
 
-/// What is printed after the message about a wrong command line.
-pub(crate) const HINT: &str = "  lefence --help                all subcommands and their options
-";
+use lf_cli::{Help, Subcommand};
+use lf_io::{DeviceFault, Sink, send};
 
-/// What is printed next if the words name no subcommand.
-pub(crate) const SUBCOMMAND_HINT: &str =
-    "  lefence demo --help           what a subcommand does, with an example (so for each of them)
-";
-
-/// What is printed on a terminal when the program waits for lines over the built-in design.
-pub(crate) const WAITING: &str =
-    "lefence: waiting for lines over the built-in design, for example: open A (end with Ctrl-D; lefence --help lists the subcommands)
-";
-
-/// The usage: all subcommands and their options.
-const USAGE: &str =
+/// All subcommands and their options, and how to get more help.
+pub(crate) const PROGRAM: &str =
     "  lefence [demo]                answers the lines of standard input over the built-in design
   lefence check DEF LEF... [--state FILE [--committed]] [--sessions N]
                                 writes a report of the design
@@ -39,17 +30,16 @@ const USAGE: &str =
               [--export FILE] [--lines FILE] [--sessions N]
                                 moves legal cells so that the nets become shorter
   (put -- before a path that begins with '-'; docs/CLI.md says more)
-";
 
-/// The text after the usage, if help was requested.
-const MORE: &str = "
   lefence demo --help           what a subcommand does, with an example (so for each of them)
   lefence --version             the version
 ";
 
-const VERSION: &str = "lefence 0.1.0 for LEF and DEF 5.8\n";
+/// The version of the program, and of the languages that it reads.
+pub(crate) const VERSION: &str = "lefence 0.1.0 for LEF and DEF 5.8\n";
 
-const DEMO: &str = "lefence [demo]
+/// The help of `demo`.
+pub(crate) const DEMO: &str = "lefence [demo]
 
 Answers the lines of standard input over the built-in design, one reply to each line.
 
@@ -57,7 +47,8 @@ example:
   printf 'open A\\nplace A 0 a1 0 0 N\\nwhere A 0 a1\\n' | lefence demo
 ";
 
-const CHECK: &str = "lefence check DEF LEF... [--state FILE [--committed]] [--sessions N]
+/// The help of `check`.
+pub(crate) const CHECK: &str = "lefence check DEF LEF... [--state FILE [--committed]] [--sessions N]
 
 Writes a report of the design as one line of JSON: how many cells there are, how many are unplaced, which break
 which rule, which overlap which. With --state, each cell is at its working place in the state that was saved to FILE,
@@ -69,7 +60,8 @@ example:
   lefence check chip.def tech.lef cells.lef
 ";
 
-const DESCRIBE: &str = "lefence describe DEF LEF... [--state FILE] [--sessions N]
+/// The help of `describe`.
+pub(crate) const DESCRIBE: &str = "lefence describe DEF LEF... [--state FILE] [--sessions N]
 
 Writes the design as JSON Lines: rows, fences, obstacles, cells with boxes and broken rules. With --state, each cell
 is at its working place in the state that was saved to FILE. Each team has N session slots (8 if not given). The exit
@@ -79,7 +71,8 @@ example:
   lefence describe chip.def tech.lef cells.lef > chip.jsonl
 ";
 
-const WIRELENGTH: &str = "lefence wirelength DEF LEF... [--state FILE] [--sessions N]
+/// The help of `wirelength`.
+pub(crate) const WIRELENGTH: &str = "lefence wirelength DEF LEF... [--state FILE] [--sessions N]
 
 Writes the half-perimeter wire length of the design's nets: a line of JSON for each team, with the nets of its cells
 alone and those that join other teams too, and one for all. Supplies are not counted. With --state, each cell is at its
@@ -90,7 +83,8 @@ example:
   lefence wirelength chip.def tech.lef cells.lef
 ";
 
-const REPLAY: &str =
+/// The help of `replay`.
+pub(crate) const REPLAY: &str =
     "lefence replay DEF LEF... [--state FILE] [--save FILE] [--export FILE] [--lines N] [--sessions N]
 
 Answers the lines of standard input over the design, one reply to each line, to the end of the input or a line
@@ -103,7 +97,8 @@ example:
   lefence replay chip.def tech.lef cells.lef --export new.def < session.txt
 ";
 
-const SERVE: &str =
+/// The help of `serve`.
+pub(crate) const SERVE: &str =
     "lefence serve DEF LEF... --port P --connections N [--state FILE] [--save FILE] [--export FILE]
               [--sessions N]
 
@@ -116,7 +111,8 @@ example:
   lefence serve chip.def tech.lef cells.lef --port 5800 --connections 100 --export new.def
 ";
 
-const REPAIR: &str =
+/// The help of `repair`.
+pub(crate) const REPAIR: &str =
     "lefence repair DEF LEF... [--team NAME]... [--keep | --all] [--effort N] [--within ROWS] [--balance-heights]
                [--near-nets] [--state FILE] [--save FILE] [--export FILE] [--export-working FILE] [--lines FILE]
                [--sessions N]
@@ -141,7 +137,8 @@ example:
   lefence repair chip.def tech.lef cells.lef --export new.def
 ";
 
-const IMPROVE: &str =
+/// The help of `improve`.
+pub(crate) const IMPROVE: &str =
     "lefence improve DEF LEF... [--team NAME]... [--within ROWS] [--rounds N] [--effort N] [--density P]
                [--export FILE] [--lines FILE] [--sessions N]
 
@@ -159,7 +156,9 @@ example:
 ";
 
 /// Returns the help of a subcommand.
-fn text_of(chosen: Subcommand) -> &'static str {
+fn subcommand_text(chosen: Subcommand) -> &'static str
+    ensures { result.now ≡ subcommand_text chosen }
+{
     match chosen {
         Subcommand::Demo => DEMO,
         Subcommand::Check => CHECK,
@@ -172,11 +171,25 @@ fn text_of(chosen: Subcommand) -> &'static str {
     }
 }
 
-/// Returns the requested help: one or two texts to print one after the other.
-pub(crate) fn texts_of(help: Help) -> [&'static str; 2] {
+/// Returns the text of the requested help.
+fn help_text(help: Help) -> &'static str
+    ensures { result.now ≡ help_text help }
+{
     match help {
-        Help::Program => [USAGE, MORE],
-        Help::Version => [VERSION, ""],
-        Help::Of(chosen) => [text_of(chosen), ""],
+        Help::Program => PROGRAM,
+        Help::Version => VERSION,
+        Help::Of(chosen) => subcommand_text(chosen),
     }
+}
+
+/// Writes the requested help, or the version. `Err` if a write fails; then a prefix of the text is written, perhaps
+/// nothing.
+pub fn write_help<W: Sink>(sink: &mut W, help: Help) -> Result<(), DeviceFault>
+    ensures ok { OnOk result (Appends (W.contents sink.old) (W.contents sink.new) (help_text help)) }
+    ensures prefix { OnErr result ((n : ℕ) × Appends (W.contents sink.old) (W.contents sink.new)
+        (take n (help_text help))) }
+    ensures failed { OnErr result (W.has_failed sink.new ≡ true) }
+    ensures held { W.holds sink.new ≡ W.holds sink.old }
+{
+    send(sink, help_text(help).as_bytes())
 }

@@ -1,0 +1,4 @@
+pub mod Comparing
+pub mod Differences
+pub mod Places
+pub mod Sizes

@@ -1,0 +1,8 @@
+use Rattle.std.proofs.Common.{◌≡◌, ◌++◌, drop, map}
+use Rattle.lf_journal_text.specs.Views.{entry_of}
+use Rattle.lf_journal_run.specs.Texts.{lines_text}
+use Rattle.lf_journal_run.proofs.texts.put_lines.Given as goal
+
+abbrev pub invariant-loop-record : goal.invariant-loop-record
+invariant-loop-record l =
+    l.text.items ++ lines_text (map entry_of (drop l.record-index l.records)) ≡ l.fn.text.items ++ lines_text (map entry_of l.records)

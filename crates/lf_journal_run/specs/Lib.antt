@@ -1,0 +1,5 @@
+pub mod Numbers
+pub mod Beginnings
+pub mod Texts
+pub mod Runs
+pub mod Laws
