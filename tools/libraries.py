@@ -76,7 +76,7 @@ GROUPS = {
         "the state of all teams. `lf_floor_model` defines outcomes and proves laws, and has no code. `lf_floor_verbs`"
         " changes the tables. `lf_floor` finds the team, saves and restores",
     ),
-    "state": Group("lf_state_text", "the text of a saved state, written and read"),
+    "state": Group("lf_state_*", "the text of a saved state, written and read, and several states gathered"),
     "journal": Group(
         "lf_journal lf_journal_*",
         "the journal of a hub. `_text` is its text, `lf_journal` puts batches on a disk, `_file` is a file as a disk,"
