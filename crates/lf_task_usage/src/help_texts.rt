@@ -175,9 +175,9 @@ pub(crate) const GATHER: &str =
 
 Puts the teams of several saved states of one design together. A team is taken from the states that have changed it:
 those in which its revision is above 0. If two states have changed a team, it must be the same in both. A team that no
-state has changed is taken from the first one. --export writes the DEF text with the committed places to FILE, and --save
-the gathered state. With --sessions, each team has N session slots, as in the states (1 to 64; 8 if not given). The exit
-status is 0 if the committed design is fully legal, and 4 if it is not.
+state has changed is taken from the first one. --export writes the DEF text with the committed places to FILE, and
+--save the gathered state. With --sessions, each team has N session slots, as in the states (1 to 64; 8 if not given).
+The exit status is 0 if the committed design is fully legal, and 4 if it is not.
 
 example:
   lefence gather chip.def tech.lef cells.lef --state A.state --state B.state --export new.def
