@@ -57,7 +57,8 @@ fn other_first(records: &[Record<'_>], due: Beginning<'_>) -> Option<RefusalKind
 /// Returns what is other in the beginning of a journal of these batches. `None` if it is the due one,
 /// or there is no batch.
 pub(crate) fn other_beginning(batches: &[Batch<'_>], due: Beginning<'_>) -> Option<RefusalKind>
-    ensures { result ≡ other_beginning (map log_of batches.now) (due_beginning due.entry.design.now due.entry.state.now) }
+    ensures { result
+        ≡ other_beginning (map log_of batches.now) (due_beginning due.entry.design.now due.entry.state.now) }
 {
     match batches.first() {
         Some(first) => other_first(&first.records, due),

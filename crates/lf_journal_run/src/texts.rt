@@ -3,7 +3,8 @@
 ghost use Rattle.std.specs.Prelude.{◌≡◌, ◌+◌, ◌<◌, ◌≤◌, ◌++◌, length, map, take, OnOk};
 ghost use Rattle.lf_journal_text.specs.Records.{entries_text, entry_text, line_text};
 ghost use Rattle.lf_journal_text.specs.Views.{entry_of, log_of};
-ghost use Rattle.lf_journal_run.specs.Texts.{entries_in, lines_text, log_size, logs_size, record_byte, replies_text, same_lines};
+ghost use Rattle.lf_journal_run.specs.Texts.{entries_in, lines_text, replies_text, same_lines};
+ghost use Rattle.lf_journal_run.specs.Texts.{log_size, logs_size, record_byte};
 
 use lf_journal_text::{Batch, Record};
 use std::alloc::AllocError;

@@ -30,15 +30,26 @@ fn floor(alloc: Global) -> Result<Floor<PlainSeeker>, Fail> {
     Ok(Floor::start(alloc, design, PlainSeeker)?)
 }
 
-/// Returns a journal of a beginning and these records in one batch, with zeros ahead.
-fn journal_of(alloc: Global, records: &[u8]) -> Result<Vec<u8>, AllocError>
-    requires some { 0 < length records.now }
-    requires small { length records.now < 100000 }
-    requires nonzero { (i : ℕ) → i < length records.now → 0 < slice_index records.now i }
+/// The record of a session that is opened.
+const OPEN: &[u8] = b"1\nopen A\nok 0 0\n";
+
+/// Returns the beginning of a journal, as bytes.
+fn beginning(alloc: Global) -> Result<Vec<u8>, AllocError> {
+    beginning_of(alloc, 1_700_000_000_000, DESIGN, b"")
+}
+
+/// Returns a journal of a beginning and these records in two batches, with zeros ahead.
+fn journal_of(alloc: Global, first: &[u8], second: &[u8]) -> Result<Vec<u8>, AllocError>
+    requires some { 0 < length first.now }
+    requires small { length first.now < 100000 }
+    requires nonzero { (i : ℕ) → i < length first.now → 0 < slice_index first.now i }
+    requires some_more { 0 < length second.now }
+    requires small_more { length second.now < 100000 }
+    requires nonzero_more { (i : ℕ) → i < length second.now → 0 < slice_index second.now i }
 {
-    let mut text = beginning_of(alloc, 1_700_000_000_000, DESIGN, b"")?;
-    let batch = batch_of(alloc, 1_700_000_000_001, records)?;
-    text.extend_from_slice(&batch)?;
+    let mut text = beginning(alloc)?;
+    text.extend_from_slice(&batch_of(alloc, 1_700_000_000_001, first)?)?;
+    text.extend_from_slice(&batch_of(alloc, 1_700_000_000_002, second)?)?;
     text.extend_from_slice(&[0; ZEROS])?;
     Ok(text)
 }
@@ -47,8 +58,15 @@ fn journal_of(alloc: Global, records: &[u8]) -> Result<Vec<u8>, AllocError>
 fn placed(alloc: Global) -> Result<Vec<u8>, AllocError> {
     journal_of(
         alloc,
-        b"1 ada\nopen A\nok 0 0\n1 ada\nplace A 0 a1 0 0 N\nok 1\n",
+        b"1\nopen A\nok 0 0\n",
+        b"1\nplace A 0 a1 0 0 N\nok 1\n",
     )
+}
+
+/// Returns where the batches of that journal begin: the first one behind the beginning, and the last.
+fn starts(alloc: Global) -> Result<(usize, usize), AllocError> {
+    let first = beginning(alloc)?.len();
+    Ok((first, first.saturating_add(38 + OPEN.len())))
 }
 
 /// Runs the journal on a floor, and returns whether the cell is then placed.
@@ -58,7 +76,11 @@ fn is_placed_by(alloc: Global, journal: &[u8]) -> Result<bool, Fail> {
         Ok(()) => {}
         Err(_) => return Err(Fail::from("a refused journal")),
     }
-    let looks = journal_of(alloc, b"1 ada\nwhere A 0 a1\nok 0 0 N\n")?;
+    let looks = journal_of(
+        alloc,
+        b"1\nwhere A 0 a1\nok 0 0 N\n",
+        b"1\nwhere A 0 a1\nok 0 0 N\n",
+    )?;
     Ok(run_journal(alloc, &mut floor, &looks, DUE).is_ok())
 }
 
@@ -86,17 +108,23 @@ fn each_prefix_is_run(rt: HostRuntime) -> Result<(), Fail> {
 #[test]
 fn each_changed_byte_is_refused(rt: HostRuntime) -> Result<(), Fail> {
     let alloc = rt.alloc();
-    let first = beginning_of(alloc, 1_700_000_000_000, DESIGN, b"")?.len();
+    let (first, last) = starts(alloc)?;
     let journal = placed(alloc)?;
     for i in 0..journal.len().saturating_sub(ZEROS) {
         let mut changed = Vec::new(alloc);
         changed.extend_from_slice(&journal)?;
         changed[i] ^= 1;
         let refusal = refusal_of(alloc, &changed, DUE)?;
-        if i == 0 || i == first {
+        if i == 0 || i == first || i == last {
             assert_eq!(rt; refusal, None);
         } else {
-            let at = if i < first { 0 } else { first };
+            let at = if i < first {
+                0
+            } else if i < last {
+                first
+            } else {
+                last
+            };
             let kind = RefusalKind::Damaged(match i - at {
                 1..13 => DamageKind::BadLength,
                 26 => DamageKind::BadTime,
@@ -108,20 +136,24 @@ fn each_changed_byte_is_refused(rt: HostRuntime) -> Result<(), Fail> {
     Ok(())
 }
 
-// A zero in the last batch reads as torn: its records are not run. One in the beginning is damage, but
-// in the header.
+// A zero in the last batch reads as torn: its record is not run. One in a batch before it is damage,
+// but in the header.
 #[test]
 fn zeros_are_refused_or_end_the_journal(rt: HostRuntime) -> Result<(), Fail> {
     let alloc = rt.alloc();
-    let first = beginning_of(alloc, 1_700_000_000_000, DESIGN, b"")?.len();
+    let (first, last) = starts(alloc)?;
     let journal = placed(alloc)?;
+    let kind = RefusalKind::Damaged(DamageKind::BadSum);
     for i in 0..journal.len().saturating_sub(ZEROS) {
         let mut changed = Vec::new(alloc);
         changed.extend_from_slice(&journal)?;
         changed[i] = 0;
-        if 38 <= i && i < first {
-            let kind = RefusalKind::Damaged(DamageKind::BadSum);
-            assert_eq!(rt; refusal_of(alloc, &changed, DUE)?, Some(Refusal { at: 0, kind }));
+        let at = if i < first { 0 } else { first };
+        if i < last && 38 <= i - at {
+            assert_eq!(rt;
+                refusal_of(alloc, &changed, DUE)?,
+                Some(Refusal { at, kind })
+            );
         } else {
             assert!(rt; !is_placed_by(alloc, &changed)?);
         }
@@ -152,7 +184,10 @@ fn other_beginnings_are_refused(rt: HostRuntime) -> Result<(), Fail> {
     ];
     for (design, state, kind) in cases {
         let due = Beginning { design, state };
-        assert_eq!(rt; refusal_of(alloc, &journal, due)?, Some(Refusal { at: 38, kind }));
+        assert_eq!(rt;
+            refusal_of(alloc, &journal, due)?,
+            Some(Refusal { at: 38, kind })
+        );
     }
     Ok(())
 }
@@ -161,19 +196,26 @@ fn other_beginnings_are_refused(rt: HostRuntime) -> Result<(), Fail> {
 #[test]
 fn other_replies_are_refused(rt: HostRuntime) -> Result<(), Fail> {
     let alloc = rt.alloc();
-    let first = beginning_of(alloc, 1_700_000_000_000, DESIGN, b"")?.len();
+    let (first, last) = starts(alloc)?;
     let kind = RefusalKind::OtherReply;
     let journal = journal_of(
         alloc,
-        b"1 ada\nopen A\nok 0 0\n1 ada\nplace A 0 a1 0 0 N\nok 2\n",
+        b"1\nopen A\nok 0 0\n",
+        b"1\nplace A 0 a1 0 0 N\nok 2\n",
     )?;
-    let at = first + 38 + 20;
-    assert_eq!(rt; refusal_of(alloc, &journal, DUE)?, Some(Refusal { at, kind }));
-    let journal = journal_of(alloc, b"1 ada\nopen A\nok 0 0\n1 ada\nbye\nok\n")?;
+    let at = last.saturating_add(38);
+    assert_eq!(rt;
+        refusal_of(alloc, &journal, DUE)?,
+        Some(Refusal { at, kind })
+    );
+    let journal = journal_of(alloc, b"1\nopen A\nok 0 0\n", b"1\nbye\nok\n")?;
     assert!(rt; refusal_of(alloc, &journal, DUE)?.is_some());
-    let journal = journal_of(alloc, b"1 ada\nopen A\nok 1 0\n1 ada\nopen A\nok 2 0\n")?;
-    let at = first + 38;
-    assert_eq!(rt; refusal_of(alloc, &journal, DUE)?, Some(Refusal { at, kind }));
+    let journal = journal_of(alloc, b"1\nopen A\nok 1 0\n", b"1\nopen A\nok 2 0\n")?;
+    let at = first.saturating_add(38);
+    assert_eq!(rt;
+        refusal_of(alloc, &journal, DUE)?,
+        Some(Refusal { at, kind })
+    );
     Ok(())
 }
 
