@@ -12,7 +12,7 @@ from __future__ import annotations
 import os
 from pathlib import Path
 
-# The memory of one of our checks, in bytes: most take less, the largest 4.1 GB (docs/ARCHITECTURE.md, Testing).
+# The memory of one of our checks, in bytes: most take less, the largest 5.3 GB (docs/ARCHITECTURE.md, Testing).
 CHECK = 3_200_000_000
 GROUP = Path("/sys/fs/cgroup")
 
