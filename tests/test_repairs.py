@@ -176,7 +176,10 @@ class Repairs(InFolder):
             # (of a terminal that is closed and empty nothing can be read)
             os.write(terminal, b"end\n")
             os.close(terminal)
-            said = screen.read(1_000).decode().splitlines()
+            written = b""
+            while not written.endswith(b"end\r\n"):
+                written += screen.read(1_000)
+            said = written.decode().splitlines()
         begun = [f'lefence: repairing "{team}", team {number} of 3' for number, team in enumerate(("A", "B", "-"), 1)]
         self.assertEqual((ran.returncode, [line.rpartition(":")[0] or line for line in said]), (0, [*begun, "end"]))
         self.assertEqual(run(words[1:], start=Start(environment=hastened))[2], "")
