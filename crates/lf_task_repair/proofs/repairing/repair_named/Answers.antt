@@ -7,11 +7,11 @@ use Rattle.lf_task_run.proofs.Running.{of_team}
 use Rattle.lf_task_repair.proofs.OldPlaces.{one_more_from}
 use Rattle.lf_task_repair.proofs.repairing.repair_named.Goals as goal
 
-pub returns-in-Ok-clause-run : goal.returns-in_ok-add-in-Ok-clause-run
+pub returns-in-Ok-clause-run : goal.returns-in-Ok-clause-run
 returns-in-Ok-clause-run g c = λ l.
     of_team l c.args.name.now c.args.floor.now c.repair_team.new.floor (kept_text c.args.lines.now.lines) (kept_text c.repair_team.new.lines.lines) (c.in-Ok.ensures.run l)
 
-pub returns-in-Ok-clause-reported : goal.returns-in_ok-add-in-Ok-clause-reported
+pub returns-in-Ok-clause-reported : goal.returns-in-Ok-clause-reported
 returns-in-Ok-clause-reported g c = (
   c.in-Ok.repaired,
   one_more_from c.args.floor.now c.repair_team.new.floor c.args.name.now c.in_ok-old_places.old_places.items c.in-Ok.repaired c.args.report.now _
