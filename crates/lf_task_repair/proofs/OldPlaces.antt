@@ -49,15 +49,16 @@ gaps_alike t a b same (own ∷ owns) (gap ∷ gaps) are = (
 )
 
 -- the places of the cells on the floor on which a repair began are those from which they were to move
-pub one_more_from : (begin floor : FloorState) (team : List ℕ) (places : List (Option Place)) (r : RepairStats) (old new : RepairReport)
+pub one_more_from : (begin floor : FloorState) (team : List ℕ) (places given : List (Option Place)) (r : RepairStats) (old new : RepairReport)
     → ((s : TeamState) → state_of begin team ≡ Some s → AreWorkingPlaces s.cells places) → team_cell_names floor team ≡ team_cell_names begin team
-    → IsOneMore floor team (place_at places) r old new → IsOneMore floor team (place_of_cell_in begin team) r old new
-one_more_from begin floor team places r old new are same more = record {
+    → given ≡ places → IsOneMore floor team (place_at given) r old new → IsOneMore floor team (place_of_cell_in begin team) r old new
+one_more_from begin floor team places given r old new are same same_places more = record {
   gaps = more.gaps;
   near = λ number s named there.
       let was = had_state team begin floor s same there in
-      gaps_alike (placed_team floor.frame number s.padding s.cells) (place_at places) (place_of_cell_in begin team)
-      (λ own. are was.0 was.1 own ∙ sym (places_of_state begin team own was.0 was.1)) r.unrepaired.items more.gaps (more.near number s named there);
+      gaps_alike (placed_team floor.frame number s.padding s.cells) (place_at given) (place_of_cell_in begin team)
+      (λ own. ap (λ (list : List (Option Place)). place_at list own) same_places ∙ are was.0 was.1 own ∙ sym (places_of_state begin team own was.0 was.1))
+      r.unrepaired.items more.gaps (more.near number s named there);
   text = more.text;
   sums = more.sums;
   least = more.least;

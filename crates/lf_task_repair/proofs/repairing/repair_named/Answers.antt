@@ -1,7 +1,3 @@
-use Rattle.std.proofs.Common.{List, Option, subst}
-use Rattle.lf_floorplan.specs.declared.place.Place.{Place}
-use Rattle.lf_repair_bounds.specs.Gaps.{place_at}
-use Rattle.lf_task_reports.specs.RepairReports.{IsOneMore}
 use Rattle.lf_task_run.specs.Commands.{kept_text}
 use Rattle.lf_task_run.proofs.Running.{of_team}
 use Rattle.lf_task_repair.proofs.OldPlaces.{one_more_from}
@@ -14,10 +10,8 @@ returns-in-Ok-clause-run g c = λ l.
 pub returns-in-Ok-clause-reported : goal.returns-in-Ok-clause-reported
 returns-in-Ok-clause-reported g c = (
   c.in-Ok.repaired,
-  one_more_from c.args.floor.now c.repair_team.new.floor c.args.name.now c.in_ok-old_places.old_places.items c.in-Ok.repaired c.args.report.now _
-      c.in_ok-old_places.ensures c.in-Ok.ensures.only.names
-      (subst (λ (places : List (Option Place)). IsOneMore c.repair_team.new.floor c.args.name.now (place_at places) c.in-Ok.repaired c.args.report.now _)
-      c.as_slice.ensures.value c.in_ok-add-in-Ok.ensures),
+  one_more_from c.args.floor.now c.repair_team.new.floor c.args.name.now c.in_ok-old_places.old_places.items c.as_slice.result.now c.in-Ok.repaired c.args.report.now _
+      c.in_ok-old_places.ensures c.in-Ok.ensures.only.names c.as_slice.ensures.value c.in_ok-add-in-Ok.ensures,
   record {
     legal = c.in-Ok.ensures.named;
     illegal = c.in-Ok.ensures.illegal;
