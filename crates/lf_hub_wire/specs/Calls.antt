@@ -1,5 +1,5 @@
 -- What a wire has done: calls, and their answers.
-use Rattle.std.specs.Prelude.{ℕ, ◌==◌, if◌then◌else◌, List, [], ◌∷◌, ◌++◌, slice_index}
+use Rattle.std.specs.Prelude.{ℕ, ◌==◌, if◌then◌else◌, List, slice_index}
 use Rattle.lf_hub_clients.specs.declared.client.Access.{Access}
 use Rattle.lf_hub_clients.specs.declared.client.Access.TheVariants.{Changes, Queries}
 
@@ -41,35 +41,3 @@ call_of numbers bytes =
     else if slice_index numbers 0 == 5 then Closed (slice_index numbers 1)
     else if slice_index numbers 0 == 6 then Ordered bytes
     else Told bytes
-
--- ---- what is said of calls
-
--- The bytes that the call brings from a connection, and those that it sends to it.
-abbrev pub came_by : ℕ → Call → List ℕ
-came_by number (Accepted team access) = []
-came_by number (Numbered n) = []
-came_by number (Came n bytes) = if number == n then bytes else []
-came_by number (Ended n) = []
-came_by number (Sent n bytes) = []
-came_by number (Closed n) = []
-came_by number (Ordered line) = []
-came_by number (Told reply) = []
-
-abbrev pub sent_by : ℕ → Call → List ℕ
-sent_by number (Accepted team access) = []
-sent_by number (Numbered n) = []
-sent_by number (Came n bytes) = []
-sent_by number (Ended n) = []
-sent_by number (Sent n bytes) = if number == n then bytes else []
-sent_by number (Closed n) = []
-sent_by number (Ordered line) = []
-sent_by number (Told reply) = []
-
--- All bytes that came from a connection, and all that were sent to it.
-abbrev pub came_from : ℕ → List Call → List ℕ
-came_from number [] = []
-came_from number (call ∷ calls) = came_by number call ++ came_from number calls
-
-abbrev pub sent_to : ℕ → List Call → List ℕ
-sent_to number [] = []
-sent_to number (call ∷ calls) = sent_by number call ++ sent_to number calls
