@@ -65,7 +65,7 @@ END DESIGN
 # Two rows that are far apart. The cells a, b and c overlap in the lower one, which has room for one of them.
 FAR_LEF = """VERSION 5.8 ;
 SITE core CLASS CORE ; SYMMETRY Y ; SIZE 0.2 BY 2.0 ; END core
-MACRO W3 CLASS CORE ; SIZE 0.6 BY 2.0 ; SYMMETRY X Y ; SITE core ; END W3
+MACRO WIDE CLASS CORE ; SIZE 0.6 BY 2.0 ; SYMMETRY X Y ; SITE core ; END WIDE
 END LIBRARY
 """
 FAR_DEF = """VERSION 5.8 ;
@@ -74,9 +74,9 @@ UNITS DISTANCE MICRONS 1000 ;
 ROW low core 0 0 N DO 5 BY 1 STEP 200 0 ;
 ROW high core 0 40000 N DO 6 BY 1 STEP 200 0 ;
 COMPONENTS 3 ;
-- a W3 + PLACED ( 0 0 ) N ;
-- b W3 + PLACED ( 200 0 ) N ;
-- c W3 + PLACED ( 0 0 ) N ;
+- a WIDE + PLACED ( 0 0 ) N ;
+- b WIDE + PLACED ( 200 0 ) N ;
+- c WIDE + PLACED ( 0 0 ) N ;
 END COMPONENTS
 END DESIGN
 """
