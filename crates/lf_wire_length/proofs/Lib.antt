@@ -3,6 +3,7 @@ pub mod TurnLemmas
 pub mod BoxLemmas
 pub mod StoredLemmas
 pub mod ViewLemmas
+pub mod CountLemmas
 pub mod TeamLemmas
 pub mod TeamNetLemmas
 pub mod TeamListLemmas

@@ -12,6 +12,7 @@ use Rattle.lf_wire_length.specs.Stored.{pin_stored, stored_nets}
 use Rattle.lf_wire_length.specs.declared.joined.NetSummary.{NetSummary}
 use Rattle.lf_wire_length.specs.declared.stored.StoredNets.{StoredNets}
 use Rattle.lf_wire_length.specs.Teams.{is_of_team, joined_after, joined_teams, joined_with, joins_team, net_summary, team_of_pin}
+use Rattle.lf_wire_length.proofs.CountLemmas.{pins_are_counted}
 use Rattle.lf_wire_length.proofs.StoredLemmas.{nets_counted}
 
 pub teams_mapped : (place : ℕ → Option Place) (team : ℕ → ℕ) (rows : List PinOffset) (pins : List PackedPin) → joined_teams place team (map (pin_stored rows) pins) ≡ fold (joined_after place team rows) NoTeam pins
@@ -22,7 +23,7 @@ team_mapped place team rows own [] = refl
 team_mapped place team rows own (p ∷ pins) = ap (λ b. is_of_team place team rows own p || b) (team_mapped place team rows own pins)
 
 pub counts_mapped : (place : ℕ → Option Place) (rows : List PinOffset) (pins : List PackedPin) → pin_counts place (map (pin_stored rows) pins) ≡ fold (counts_after place rows) no_pins pins
-counts_mapped place rows pins = fold-map (with_pin_counted place) (pin_stored rows) no_pins pins
+counts_mapped place rows pins = sym (pins_are_counted place (map (pin_stored rows) pins)) ∙ fold-map (with_pin_counted place) (pin_stored rows) no_pins pins
 
 -- There is a summary of each net.
 pub summaries_counted : (place : ℕ → Option Place) (team : ℕ → ℕ) (stored : StoredNets) (xs : List NetSummary) → xs ≡ map (net_summary place team) (stored_nets stored) → length xs ≡ length stored.starts.now

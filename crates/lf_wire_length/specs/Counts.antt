@@ -1,5 +1,5 @@
 -- Counts of a design's nets and of their pins.
-use Rattle.std.specs.Prelude.{ℕ, ◌+◌, ◌*◌, ◌≤◌, nat_lt, List, Option, Some, None, fold, if◌then◌else◌}
+use Rattle.std.specs.Prelude.{ℕ, ◌+◌, ◌*◌, ◌≤◌, nat_lt, Bool, true, false, List, Option, Some, None, count_by, filter, if◌then◌else◌, is_none, is_some, sum_by}
 use Rattle.lf_floorplan.specs.declared.place.Place.{Place}
 use Rattle.lf_wire_length.specs.declared.pins.NetPin.{NetPin}
 use Rattle.lf_wire_length.specs.declared.pins.NetPin.TheVariants.{Fixed, OfCell, Unknown, Unplaced}
@@ -9,9 +9,9 @@ use Rattle.lf_wire_length.specs.declared.joined.JoinedTeams.{JoinedTeams}
 use Rattle.lf_wire_length.specs.declared.joined.JoinedTeams.TheVariants.{NoTeam, OneTeam, SeveralTeams}
 use Rattle.lf_wire_length.specs.declared.counts.PinCounts.{PinCounts}
 use Rattle.lf_wire_length.specs.declared.counts.NetCounts.{NetCounts}
-use Rattle.lf_wire_length.specs.Length.{length_of_net}
+use Rattle.lf_wire_length.specs.Length.{length_of_net, point_of_pin}
 use Rattle.lf_wire_length.specs.Stored.{pin_stored}
-use Rattle.lf_wire_length.specs.Teams.{joined_teams}
+use Rattle.lf_wire_length.specs.Teams.{are_several_teams, joined_teams}
 
 -- ---- the pins of a net
 
@@ -39,9 +39,28 @@ with_pin_counted place c (OfCell cell pin) = with_cell_pin (place cell) c
 with_pin_counted place c Unknown = with_unknown c
 with_pin_counted place c Unplaced = with_unplaced c
 
--- The pins of a net that count, are unknown, and are unplaced.
+-- True if the pin has a point, so that it counts.
+abbrev pub is_counted : (ℕ → Option Place) → NetPin → Bool
+is_counted place pin = is_some (point_of_pin place pin)
+
+-- True if the pin is in no text.
+abbrev pub is_unknown : NetPin → Bool
+is_unknown Unknown = true
+is_unknown _ = false
+
+-- True if the pin has no place, and would have one if it or its cell were placed.
+abbrev pub is_unplaced : (ℕ → Option Place) → NetPin → Bool
+is_unplaced place (OfCell cell pin) = is_none (place cell)
+is_unplaced place Unplaced = true
+is_unplaced place _ = false
+
+-- The numbers of pins of a net that count, are unknown, and are unplaced.
 abbrev pub pin_counts : (ℕ → Option Place) → List NetPin → PinCounts
-pin_counts place pins = fold (with_pin_counted place) no_pins pins
+pin_counts place pins = record {
+  counted = count_by (is_counted place) pins;
+  unknown = count_by is_unknown pins;
+  unplaced = count_by (is_unplaced place) pins;
+}
 
 -- ---- the nets
 
@@ -84,10 +103,30 @@ abbrev pub with_pins_of_net : (ℕ → Option Place) → (ℕ → ℕ) → NetCo
 with_pins_of_net place team s pins =
     with_net_counted s (length_of_net place pins) (joined_teams place team pins) (pin_counts place pins)
 
+-- True if fewer than two pins of the net count.
+abbrev pub is_short : (ℕ → Option Place) → List NetPin → Bool
+is_short place pins = nat_lt (pin_counts place pins).counted 2
+
+abbrev pub is_no_team : JoinedTeams → Bool
+is_no_team NoTeam = true
+is_no_team _ = false
+
+-- True if the net joins several teams.
+abbrev pub is_crossing : (ℕ → Option Place) → (ℕ → ℕ) → List NetPin → Bool
+is_crossing place team pins = are_several_teams (joined_teams place team pins)
+
 -- The counts of nets: pins that count, nets of fewer than two, pins that are unknown or unplaced,
 -- nets that join no team, and nets that join several, with the sum of their lengths.
 abbrev pub net_counts : (ℕ → Option Place) → (ℕ → ℕ) → List (List NetPin) → NetCounts
-net_counts place team nets = fold (with_pins_of_net place team) no_counts nets
+net_counts place team nets = record {
+  pins = sum_by (λ pins. (pin_counts place pins).counted) nets;
+  one_pin = count_by (is_short place) nets;
+  unknown = sum_by (λ pins. (pin_counts place pins).unknown) nets;
+  unplaced = sum_by (λ pins. (pin_counts place pins).unplaced) nets;
+  fixed_nets = count_by (λ pins. is_no_team (joined_teams place team pins)) nets;
+  crossing_nets = count_by (is_crossing place team) nets;
+  crossing = sum_by (length_of_net place) (filter (is_crossing place team) nets);
+}
 
 -- ---- ranges
 

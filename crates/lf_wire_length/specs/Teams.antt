@@ -1,6 +1,6 @@
 -- The lengths of nets by team. A net joins the teams of those of its pins that count and are of
 -- movable cells.
-use Rattle.std.specs.Prelude.{ℕ, ◌+◌, ◌*◌, ◌==◌, ◌≤◌, Bool, true, false, List, map, option_map, Option, Some, None, fold, if◌then◌else◌}
+use Rattle.std.specs.Prelude.{ℕ, ◌+◌, ◌*◌, ◌==◌, ◌≤◌, ◌&&◌, Bool, true, false, List, map, option_map, Option, Some, None, count_by, filter, fold, if◌then◌else◌, sum_by}
 use Rattle.std.specs.List.{list_any, range_with_len}
 use Rattle.lf_floorplan.specs.declared.place.Place.{Place}
 use Rattle.lf_wire_length.specs.declared.pins.NetPin.{NetPin}
@@ -71,10 +71,34 @@ abbrev pub with_pins_of_team : (ℕ → Option Place) → (ℕ → ℕ) → ℕ 
 with_pins_of_team place team own s pins =
     with_net_of_team own (joins_team place team own pins) (length_of_net place pins) (joined_teams place team pins) s
 
+-- True if `own` is the only team.
+abbrev pub is_only_team : ℕ → JoinedTeams → Bool
+is_only_team own NoTeam = false
+is_only_team own (OneTeam team) = team == own
+is_only_team own SeveralTeams = false
+
+abbrev pub are_several_teams : JoinedTeams → Bool
+are_several_teams SeveralTeams = true
+are_several_teams _ = false
+
+-- True if a net with these pins joins the team `own` and no other.
+abbrev pub joins_only : (ℕ → Option Place) → (ℕ → ℕ) → ℕ → List NetPin → Bool
+joins_only place team own pins = is_only_team own (joined_teams place team pins)
+
+-- True if a net with these pins joins the team `own` and others.
+abbrev pub joins_with_others : (ℕ → Option Place) → (ℕ → ℕ) → ℕ → List NetPin → Bool
+joins_with_others place team own pins =
+    are_several_teams (joined_teams place team pins) && joins_team place team own pins
+
 -- The numbers and lengths of the nets that join the team: those that join no other team, and those
 -- that join others too.
 abbrev pub team_lengths : (ℕ → Option Place) → (ℕ → ℕ) → List (List NetPin) → ℕ → TeamLengths
-team_lengths place team nets own = fold (with_pins_of_team place team own) no_team_lengths nets
+team_lengths place team nets own = record {
+  nets = count_by (joins_only place team own) nets;
+  own = sum_by (length_of_net place) (filter (joins_only place team own) nets);
+  crossing_nets = count_by (joins_with_others place team own) nets;
+  crossing = sum_by (length_of_net place) (filter (joins_with_others place team own) nets);
+}
 
 -- The lengths of the teams of these numbers: 0 and those after it.
 abbrev pub lengths_of_teams : (ℕ → Option Place) → (ℕ → ℕ) → List (List NetPin) → ℕ → List TeamLengths
