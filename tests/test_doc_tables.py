@@ -131,7 +131,7 @@ class Refusals(unittest.TestCase):
     """The tables have each refusal and each rule."""
 
     def test_of_texts_designs_and_states(self) -> None:
-        pages = ((PROTOCOL, "LEF and DEF texts"), (PROTOCOL, "Loading"), (CLI, "State texts"))
+        pages = ((PROTOCOL, "LEF and DEF texts"), (PROTOCOL, "Loading"), (CLI, "State texts"), (CLI, "Messages"))
         cells = [row[0] for page, heading in pages for first, rows in tables(page, heading) for row in rows]
         listed = {name for cell in cells for name in names(cell) if re.fullmatch(r"\d+ [A-Z]\w+", name)}
         source = "".join(path.read_text() for path in (TOP / "crates/lf_task_faults/src").glob("*.rt"))

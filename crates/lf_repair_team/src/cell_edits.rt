@@ -91,10 +91,14 @@ fn change_of<'x>(step: &Edit, cell: &'x [u8]) -> Change<&'x [u8]>
     }
 }
 
-/// The effect of a reply on the repair: it continues unless memory ran out.
-pub(crate) fn continue_unless_out_of_memory(reply: &Reply) -> Result<(), RepairFault> {
+/// The effect of a reply on the repair: it continues unless memory ran out, or the team has no revision
+/// left.
+pub(crate) fn continue_unless_exhausted(reply: &Reply) -> Result<(), RepairFault> {
     match reply {
         Reply::Refused(Refusal::OutOfMemory) => Err(RepairFault::OutOfMemory),
+        Reply::Refused(Refusal::RevisionsSpent) => {
+            Err(RepairFault::Refused(Refusal::RevisionsSpent))
+        }
         _ => Ok(()),
     }
 }
@@ -158,7 +162,7 @@ fn run_edit_of<S: Seeker + Drop, K: Sink>(
     floor.teams_match_frame();
     let action = Action::Change(change_of(step, cell));
     match run_action(floor, session, action, line, lines) {
-        Ok(reply) => continue_unless_out_of_memory(&reply),
+        Ok(reply) => continue_unless_exhausted(&reply),
         Err(fault) => Err(fault),
     }
 }

@@ -29,7 +29,7 @@ pub enum RepairFault {
     /// written.
     Lines,
     /// The floor refused to open a session, to commit the team, or to unplace or legalize an
-    /// unrepaired cell.
+    /// unrepaired cell; or it refused any command because the team has no revision left.
     Refused(Refusal),
 }
 

@@ -8,7 +8,7 @@ ghost use Rattle.lf_repair_team.specs.CellEdits.{AreBackAtCommitted, KeepsCommit
 ghost use Rattle.lf_repair_team.specs.TeamRepairs.{ChangesOnly, settings_in};
 ghost use Rattle.lf_repair_team.specs.Runs.{IsRunWithCutLine, IsWrittenRun};
 
-use crate::cell_edits::{Buffers, TeamSession, continue_unless_out_of_memory, run_action};
+use crate::cell_edits::{Buffers, TeamSession, continue_unless_exhausted, run_action};
 use crate::run_command::{RepairFault, is_accepted, run_command};
 use lf_floor::{Floor, query_keeps_state};
 use lf_io::Sink;
@@ -168,7 +168,7 @@ pub fn close<S: Seeker + Drop, K: Sink>(
     legalizer_exists();
     query_keeps_state();
     match run_action(floor, session, Action::Close, &mut buffers.line, lines) {
-        Ok(reply) => continue_unless_out_of_memory(&reply),
+        Ok(reply) => continue_unless_exhausted(&reply),
         Err(fault) => Err(fault),
     }
 }

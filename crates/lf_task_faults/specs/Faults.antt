@@ -9,13 +9,15 @@ use Rattle.lf_state_text.specs.declared.fault.StateFaultNumber.{StateFaultNumber
 use Rattle.lf_state_text.specs.declared.fault.StateFaultNumber.TheVariants as state
 use Rattle.lf_task_faults.specs.declared.faults.TaskExit.{TaskExit}
 use Rattle.lf_task_faults.specs.declared.faults.Fault.{Fault}
-use Rattle.lf_task_faults.specs.declared.faults.Fault.TheVariants.{Refused, File, RefusedState, NoTeam, ReadFault, WriteFault, TooManyLines, OutOfMemory}
+use Rattle.lf_task_faults.specs.declared.faults.Fault.TheVariants.{Refused, File, RefusedState, NoTeam, RefusedTeam, ReadFault, WriteFault, TooManyLines, OutOfMemory}
 use Rattle.lf_task_faults.specs.declared.faults.Fault.TheVariants.{Output, Bind, Accept, NotWritten, SetupOutOfMemory, OutputOutOfMemory}
 use Rattle.lf_task_faults.specs.declared.faults.TextFile.{TextFile}
 use Rattle.lf_task_faults.specs.declared.faults.TextKind.{TextKind}
 use Rattle.lf_task_faults.specs.declared.faults.TextKind.TheVariants.{Lef, Def, State}
 use Rattle.lf_task_faults.specs.declared.faults.OutputKind.{OutputKind}
 use Rattle.lf_task_faults.specs.declared.faults.OutputKind.TheVariants.{Export, Save, Lines, Working}
+use Rattle.lf_task_faults.specs.declared.faults.TeamRefusal.{TeamRefusal}
+use Rattle.lf_task_faults.specs.declared.faults.TeamRefusal.TheVariants as unserved
 use Rattle.lf_task_faults.specs.declared.faults.BindFailure.{BindFailure}
 use Rattle.lf_task_faults.specs.declared.faults.BindFailure.TheVariants as unbound
 use Rattle.lf_task_faults.specs.declared.hints.Compression.{Compression}
@@ -89,12 +91,23 @@ refusal_text refusal = numbered_refusal refusal.number ++ line_words refusal.lin
 abbrev pub state_refusal_text : StateRefusal → List ℕ
 state_refusal_text refusal = state_numbered refusal.number ++ line_words (Some refusal.line)
 
+-- The number and the name of the refusal of a team.
+abbrev pub team_numbered : TeamRefusal → List ℕ
+team_numbered unserved.SessionsFull = codes "33 SessionsFull"
+team_numbered unserved.RevisionsSpent = codes "34 RevisionsSpent"
+team_numbered unserved.Other = codes "35 CommandRefused"
+
+-- The text of the refusal of a team: its number, its name and the name of the team.
+abbrev pub team_refusal_text : List ℕ → TeamRefusal → List ℕ
+team_refusal_text name why = team_numbered why ++ codes " " ++ name
+
 -- The text of a fault: a refusal's own, or one word.
 abbrev pub fault_text : Fault → List ℕ
 fault_text (Refused file refusal) = refusal_text refusal
 fault_text (File file why) = codes "File"
 fault_text (RefusedState path refusal) = state_refusal_text refusal
 fault_text (NoTeam name) = codes "NoTeam"
+fault_text (RefusedTeam name why) = team_refusal_text name.items why
 fault_text ReadFault = codes "ReadFault"
 fault_text WriteFault = codes "WriteFault"
 fault_text TooManyLines = codes "TooManyLines"
@@ -259,14 +272,22 @@ abbrev pub subject_words : Fault → List ℕ
 subject_words (File file why) = file_words file
 subject_words (NotWritten kind path why) = output_words kind path.now
 subject_words (NoTeam name) = team_words name.now
+subject_words (RefusedTeam name why) = team_words name.items
 subject_words (Bind port why) = port_text port
 subject_words _ = []
+
+-- Why a team cannot be repaired.
+abbrev pub team_complaint : TeamRefusal → List ℕ
+team_complaint unserved.SessionsFull = codes " has no free session slot"
+team_complaint unserved.RevisionsSpent = codes " is at the last revision"
+team_complaint unserved.Other = codes " cannot be repaired: the floor refused a command"
 
 -- What is wrong with it.
 abbrev pub complaint_words : Fault → List ℕ
 complaint_words (File file why) = codes " cannot be read"
 complaint_words (NotWritten kind path why) = codes " cannot be written"
 complaint_words (NoTeam name) = codes " is not in the design"
+complaint_words (RefusedTeam name why) = team_complaint why
 complaint_words (Bind port why) = codes " is not available"
 complaint_words _ = []
 
@@ -312,6 +333,7 @@ second_line (File file why) = complaint_line (File file why)
 second_line (RefusedState path refusal) = state_line path.now refusal
 second_line (NotWritten kind path why) = complaint_line (NotWritten kind path why)
 second_line (NoTeam name) = complaint_line (NoTeam name)
+second_line (RefusedTeam name why) = complaint_line (RefusedTeam name why)
 second_line (Bind port why) = complaint_line (Bind port why)
 second_line _ = []
 
@@ -326,6 +348,7 @@ abbrev pub status_of : Fault → ℕ
 status_of (Refused file refusal) = 1
 status_of (RefusedState path refusal) = 1
 status_of (NoTeam name) = 1
+status_of (RefusedTeam name why) = 1
 status_of SetupOutOfMemory = 1
 status_of OutputOutOfMemory = 1
 status_of _ = 3
@@ -363,6 +386,7 @@ IsEarly (Refused file refusal) = Unit {0}
 IsEarly (File file why) = Unit {0}
 IsEarly (RefusedState path refusal) = Unit {0}
 IsEarly (NoTeam name) = Unit {0}
+IsEarly (RefusedTeam name why) = Unit {0}
 IsEarly SetupOutOfMemory = Unit {0}
 IsEarly _ = ⊥
 
@@ -383,12 +407,13 @@ IsOfService (Bind port why) = Unit {0}
 IsOfService Accept = Unit {0}
 IsOfService _ = ⊥
 
--- The faults that are of no device: of a text, of a team's name, of memory, or of too many lines.
+-- The faults that are of no device: of a text, of a team, of memory, or of too many lines.
 abbrev pub IsOfNone : Fault → Type 0
 IsOfNone (Refused file refusal) = Unit {0}
 IsOfNone (File file why) = Unit {0}
 IsOfNone (RefusedState path refusal) = Unit {0}
 IsOfNone (NoTeam name) = Unit {0}
+IsOfNone (RefusedTeam name why) = Unit {0}
 IsOfNone TooManyLines = Unit {0}
 IsOfNone OutOfMemory = Unit {0}
 IsOfNone SetupOutOfMemory = Unit {0}

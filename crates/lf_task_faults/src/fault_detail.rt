@@ -5,10 +5,10 @@ ghost use Rattle.std.specs.Io.KnownBytes.{Appends};
 ghost use Rattle.std.specs.Char.{digit_char};
 ghost use Rattle.lf_task_faults.specs.Faults.{beside_words, bytes_words, complaint_line, complaint_words, compressed_words, earlier_words, fence_words, file_words, first_words};
 ghost use Rattle.lf_task_faults.specs.Faults.{hint_words, is_memory, conflict_words, number_words, output_kind_words, output_words, overlapped_fence_words, port_text, reason_words, refused_words, remark_words, text_refusal_words};
-ghost use Rattle.lf_task_faults.specs.Faults.{second_line, shown_bytes, shown_byte, shown_line, fence_line_words, state_line, subject_words, team_words};
+ghost use Rattle.lf_task_faults.specs.Faults.{second_line, shown_bytes, shown_byte, shown_line, fence_line_words, state_line, subject_words, team_complaint, team_words};
 ghost use Rattle.lf_task_faults.specs.Faults.{claiming_fences_words, unbound_words, unpack_words, unreadable_words, unwritable_words};
 
-use crate::faults::{BindFailure, Fault, OutputKind, TextFile, TextKind};
+use crate::faults::{BindFailure, Fault, OutputKind, TeamRefusal, TextFile, TextKind};
 use crate::hints::{Compression, Hint, Remark};
 use crate::read_failure::ReadFailureKind;
 use crate::text_refusal::{FenceLine, StateRefusal, TextRefusal};
@@ -353,13 +353,13 @@ fn put_output<W: Sink>(sink: &mut W, kind: OutputKind, path: &str) -> Result<(),
 }
 
 /// Writes the name of a team.
-fn put_team<W: Sink>(sink: &mut W, name: &str) -> Result<(), DeviceFault>
+fn put_team<W: Sink>(sink: &mut W, name: &[u8]) -> Result<(), DeviceFault>
     ensures ok { OnOk result (Appends (W.contents sink.old) (W.contents sink.new) (team_words name.now)) }
     ensures failed { OnErr result (W.has_failed sink.new ≡ true) }
     ensures held { W.holds sink.new ≡ W.holds sink.old }
 {
     send(sink, b"team ")?;
-    put_shown(sink, name.as_bytes())
+    put_shown(sink, name)
 }
 
 /// Writes where a state text is refused: the number of its line, and the line's first bytes.
@@ -403,9 +403,21 @@ fn put_subject<W: Sink>(sink: &mut W, fault: &Fault<'_>) -> Result<(), DeviceFau
     match fault {
         Fault::File(file, _) => put_text_file(sink, file),
         Fault::NotWritten(kind, path, _) => put_output(sink, *kind, path),
-        Fault::NoTeam(name) => put_team(sink, name),
+        Fault::NoTeam(name) => put_team(sink, name.as_bytes()),
+        Fault::RefusedTeam(name, _) => put_team(sink, name.as_slice()),
         Fault::Bind(port, _) => put_port(sink, *port),
         _ => Ok(()),
+    }
+}
+
+/// Returns why a team cannot be repaired.
+fn team_complaint(why: TeamRefusal) -> &'static [u8]
+    ensures { result.now ≡ team_complaint why }
+{
+    match why {
+        TeamRefusal::SessionsFull => b" has no free session slot",
+        TeamRefusal::RevisionsSpent => b" is at the last revision",
+        TeamRefusal::Other => b" cannot be repaired: the floor refused a command",
     }
 }
 
@@ -417,6 +429,7 @@ fn complaint_of(fault: &Fault<'_>) -> &'static [u8]
         Fault::File(_, _) => b" cannot be read",
         Fault::NotWritten(_, _, _) => b" cannot be written",
         Fault::NoTeam(_) => b" is not in the design",
+        Fault::RefusedTeam(_, why) => team_complaint(*why),
         Fault::Bind(_, _) => b" is not available",
         _ => b"",
     }
@@ -496,6 +509,7 @@ pub(crate) fn write_detail_line<W: Sink>(sink: &mut W, fault: &Fault<'_>) -> Res
         Fault::RefusedState(path, refusal) => put_no_state(sink, path, refusal),
         Fault::NotWritten(_, _, _) => put_complaint(sink, fault),
         Fault::NoTeam(_) => put_complaint(sink, fault),
+        Fault::RefusedTeam(_, _) => put_complaint(sink, fault),
         Fault::Bind(_, _) => put_complaint(sink, fault),
         _ => Ok(()),
     }

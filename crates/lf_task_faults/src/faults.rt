@@ -3,7 +3,7 @@
 ghost use Rattle.std.specs.Prelude.{◌≡◌, true, IsTrue, OnErr, OnOk, option_map};
 ghost use Rattle.std.specs.Io.KnownBytes.{Appends};
 ghost use Rattle.lf_task_faults.specs.Faults.{EndsWith, fault_line, fault_text, line_words, name_words, numbered_refusal, refusal_text, state_numbered};
-ghost use Rattle.lf_task_faults.specs.Faults.{state_refusal_text, status_of, fault_lines_text, unread_fault};
+ghost use Rattle.lf_task_faults.specs.Faults.{state_refusal_text, status_of, fault_lines_text, team_numbered, team_refusal_text, unread_fault};
 ghost use Rattle.lf_task_faults.specs.declared.faults.Fault.TheVariants.{SetupOutOfMemory};
 
 use crate::fault_detail::write_detail_line;
@@ -58,6 +58,17 @@ pub enum BindFailure {
     Other,
 }
 
+/// Why the floor refused a command without which a team cannot be repaired.
+#[derive(Clone, Copy, Debug, PartialEq, Eq)]
+pub enum TeamRefusal {
+    /// All session slots of the team are taken.
+    SessionsFull,
+    /// The team is at the last revision.
+    RevisionsSpent,
+    /// Another refusal.
+    Other,
+}
+
 /// Why a task failed, with all that is printed about it.
 #[derive(Drop)]
 pub enum Fault<'a> {
@@ -73,6 +84,8 @@ pub enum Fault<'a> {
     RefusedState(&'a str, StateRefusal),
     /// No team of the design has this name.
     NoTeam(&'a str),
+    /// The floor refused a command without which the team of this name cannot be repaired.
+    RefusedTeam(Vec<u8>, TeamRefusal),
     /// The reader of lines failed, or the limit on reads was reached.
     ReadFault,
     /// A reply could not be written.
@@ -207,6 +220,28 @@ fn put_state_refusal<W: Sink>(sink: &mut W, refusal: &StateRefusal) -> Result<()
     put_line(sink, Some(refusal.line))
 }
 
+/// Returns the number and the name of the refusal of a team.
+fn team_numbered(why: TeamRefusal) -> &'static [u8]
+    ensures { result.now ≡ team_numbered why }
+{
+    match why {
+        TeamRefusal::SessionsFull => b"33 SessionsFull",
+        TeamRefusal::RevisionsSpent => b"34 RevisionsSpent",
+        TeamRefusal::Other => b"35 CommandRefused",
+    }
+}
+
+/// Writes the text of the refusal of a team.
+fn put_team_refusal<W: Sink>(sink: &mut W, name: &[u8], why: TeamRefusal) -> Result<(), DeviceFault>
+    ensures ok { OnOk result (Appends (W.contents sink.old) (W.contents sink.new) (team_refusal_text name.now why)) }
+    ensures failed { OnErr result (W.has_failed sink.new ≡ true) }
+    ensures held { W.holds sink.new ≡ W.holds sink.old }
+{
+    send(sink, team_numbered(why))?;
+    send(sink, b" ")?;
+    send(sink, name)
+}
+
 /// Writes the text of a fault.
 fn put_fault<W: Sink>(sink: &mut W, fault: &Fault<'_>) -> Result<(), DeviceFault>
     ensures ok { OnOk result (Appends (W.contents sink.old) (W.contents sink.new) (fault_text fault.now)) }
@@ -218,6 +253,7 @@ fn put_fault<W: Sink>(sink: &mut W, fault: &Fault<'_>) -> Result<(), DeviceFault
         Fault::File(_, _) => send(sink, b"File"),
         Fault::RefusedState(_, refusal) => put_state_refusal(sink, refusal),
         Fault::NoTeam(_) => send(sink, b"NoTeam"),
+        Fault::RefusedTeam(name, why) => put_team_refusal(sink, name.as_slice(), *why),
         Fault::ReadFault => send(sink, b"ReadFault"),
         Fault::WriteFault => send(sink, b"WriteFault"),
         Fault::TooManyLines => send(sink, b"TooManyLines"),
@@ -242,7 +278,7 @@ pub fn write_fault<W: Sink>(sink: &mut W, fault: &Fault<'_>) -> Result<(), Devic
     send(sink, b"\n")
 }
 
-/// Returns the exit status of a fault: 1 for `Refused`, `RefusedState`, `NoTeam`,
+/// Returns the exit status of a fault: 1 for `Refused`, `RefusedState`, `NoTeam`, `RefusedTeam`,
 /// `SetupOutOfMemory` and `OutputOutOfMemory`, otherwise 3.
 pub fn status_of(fault: &Fault<'_>) -> u8
     ensures { result ≡ status_of fault.now }
@@ -251,6 +287,7 @@ pub fn status_of(fault: &Fault<'_>) -> u8
         Fault::Refused { .. } => 1,
         Fault::RefusedState(_, _) => 1,
         Fault::NoTeam(_) => 1,
+        Fault::RefusedTeam(_, _) => 1,
         Fault::SetupOutOfMemory => 1,
         Fault::OutputOutOfMemory => 1,
         _ => 3,

@@ -10,22 +10,24 @@ ghost use Rattle.lf_repair_team.specs.TeamRepairs.{ChangesOnly, KeepsLegalPlaces
 ghost use Rattle.lf_repair_strategy.specs.Targets.{AreWorkingPlaces};
 ghost use Rattle.lf_repair_strategy.specs.declared.stats.RepairStats.{RepairStats};
 ghost use Rattle.lf_task_reports.specs.RepairReports.{IsOneMore};
+ghost use Rattle.lf_task_faults.specs.Faults.{IsEarly};
 ghost use Rattle.lf_task_faults.specs.declared.faults.Fault.TheVariants.{SetupOutOfMemory};
 ghost use Rattle.lf_task_run.specs.Commands.{IsKeptRun, kept_text};
 ghost use Rattle.lf_task_run.specs.Tasks.{IsWorkDone, request_of};
 ghost use Rattle.lf_task_run.specs.Teams.{AreKnown, IsStatusOf, OnlySelectedChange, selected_at, selected_names};
 ghost use Rattle.lf_task_repair.specs.Reports.{AddsTeamLines, AddsTotalLine, IsRepairOf, KeepsAllLegalPlaces, policy_of, reach_of_rows};
-ghost use Rattle.lf_task_repair.specs.Repairs.{repair_means};
+ghost use Rattle.lf_task_repair.specs.Repairs.{IsRepairFault, IsTeamFault, repair_means};
 
 use lf_cli::{LegalCells, RepairOptions};
 use lf_density::Density;
 use lf_floor::{Floor, team_name};
 use lf_floorplan::{Frame, Place};
 use lf_legalize::IndexSeeker;
+use lf_proto::Refusal;
 use lf_repair_strategy::working_places;
-use lf_repair_team::{MovePolicy, RepairSearch, repair_team};
+use lf_repair_team::{MovePolicy, RepairFault, RepairSearch, repair_team};
 use lf_rules::legalizer_exists;
-use lf_task_faults::Fault;
+use lf_task_faults::{Fault, TeamRefusal};
 use lf_task_files::{RepairLimits, is_committed_legal};
 use lf_task_reports::{RepairReport, density_on, density_since};
 use lf_task_run::{
@@ -64,6 +66,23 @@ fn places_in_team(
     working_places(alloc, floor.placement(), number)
 }
 
+/// Returns the fault of a task that could not repair the team with this name.
+fn fault_of<'f>(alloc: Global, team: &[u8], fault: RepairFault) -> Fault<'f>
+    ensures { IsTeamFault team.now result }
+{
+    let why = match fault {
+        RepairFault::Refused(Refusal::SessionsFull) => TeamRefusal::SessionsFull,
+        RepairFault::Refused(Refusal::RevisionsSpent) => TeamRefusal::RevisionsSpent,
+        RepairFault::Refused(Refusal::OutOfMemory) => return Fault::SetupOutOfMemory,
+        RepairFault::Refused(_) => TeamRefusal::Other,
+        _ => return Fault::SetupOutOfMemory,
+    };
+    match Vec::from_slice(alloc, team) {
+        Ok(name) => Fault::RefusedTeam(name, why),
+        Err(_) => Fault::SetupOutOfMemory,
+    }
+}
+
 /// Repairs the team with this name, and adds its line to the report. `Err` if an allocation fails, or
 /// if the floor refuses a command: a restored state may have no free session slot, or no revision
 /// left.
@@ -84,7 +103,7 @@ fn repair_named<'f, P: Progress>(
         ((repaired : RepairStats)
         × IsOneMore floor.new name.now (place_of_cell_in floor.old name.now) repaired report.old report.new
         × IsRepairOf search.now.reach report.old.impossible.items name.now floor.old floor.new repaired) }
-    ensures err { IfErr result (λ fault. fault ≡ SetupOutOfMemory) }
+    ensures err { IfErr result (IsTeamFault name.now) }
 {
     let old_places = places_in_team(alloc, floor, name)?;
     let impossible = report.impossible.as_slice();
@@ -93,7 +112,7 @@ fn repair_named<'f, P: Progress>(
             report.add(alloc, floor, name, old_places.as_slice(), &repaired)?;
             Ok(())
         }
-        Err(_) => Err(Fault::SetupOutOfMemory),
+        Err(fault) => Err(fault_of(alloc, name, fault)),
     }
 }
 
@@ -156,7 +175,7 @@ fn repair_numbered<'f, P: Progress>(
         (OnlySelectedChange (map (λ team. team.now) plan.now.teams.now) floor.old floor.new) }
     ensures reported { OnOk result (AddsTeamLines (reach_of_rows floor.old.frame plan.now.options.now.within) (selected_at floor.old.frame
         (map (λ team. team.now) plan.now.teams.now) number) floor.old floor.new report.old report.new) }
-    ensures err { IfErr result (λ fault. fault ≡ SetupOutOfMemory) }
+    ensures err { IfErr result (IsRepairFault (map (λ team. team.now) plan.now.teams.now) floor.old) }
     ensures kept { plan.now.options.now.legal ≡ KeepLegal → (team : List ℕ) → team_number floor.old.frame team ≡ Some number
         → KeepsLegalPlaces team floor.old floor.new }
     ensures others { (team : List ℕ) → team_number floor.old.frame team ≢ Some number
@@ -192,7 +211,7 @@ fn repair_teams<'f, P: Progress>(
     ensures kept { plan.now.options.now.legal ≡ KeepLegal → OnOk result (KeepsAllLegalPlaces floor.old floor.new) }
     ensures reported { OnOk result (AddsTeamLines (reach_of_rows floor.old.frame plan.now.options.now.within) (selected_names floor.old.frame
         (map (λ team. team.now) plan.now.teams.now)) floor.old floor.new report.old report.new) }
-    ensures err { IfErr result (λ fault. fault ≡ SetupOutOfMemory) }
+    ensures err { IfErr result (IsRepairFault (map (λ team. team.now) plan.now.teams.now) floor.old) }
 {
     let teams = floor.placement().frame().teams.len() + 1;
     for number in 0..teams {
@@ -241,7 +260,8 @@ pub(crate) fn repair_selected<'f, P: Progress>(
     requires known { AreKnown floor.old.frame (request_of job.now).teams }
     ensures ok { IfOk result (λ done. IsWorkDone (repair_means options.now) (request_of job.now) start.now
         floor.old floor.new (kept_text done.lines) done.report.items done.status) }
-    ensures err { IfErr result (λ fault. fault ≡ SetupOutOfMemory) }
+    ensures err { IfErr result (IsRepairFault (request_of job.now).teams floor.old) }
+    ensures early { IfErr result IsEarly }
 {
     legalizer_exists();
     let plan = RepairPlan {

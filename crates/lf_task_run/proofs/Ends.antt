@@ -3,7 +3,7 @@ use Rattle.std.proofs.Common.{◌≡◌, inl, inr, ℕ, List, true, false, Optio
 use Rattle.std.specs.Prelude.{◌||◌}
 use Rattle.lf_floorplan.specs.declared.frame.Frame.{Frame}
 use Rattle.lf_task_faults.specs.declared.faults.Fault.{Fault}
-use Rattle.lf_task_faults.specs.declared.faults.Fault.TheVariants.{Refused, File, RefusedState, NoTeam, ReadFault, WriteFault, TooManyLines, OutOfMemory, Output, Bind, Accept, NotWritten, SetupOutOfMemory, OutputOutOfMemory}
+use Rattle.lf_task_faults.specs.declared.faults.Fault.TheVariants.{Refused, File, RefusedState, NoTeam, RefusedTeam, ReadFault, WriteFault, TooManyLines, OutOfMemory, Output, Bind, Accept, NotWritten, SetupOutOfMemory, OutputOutOfMemory}
 use Rattle.lf_task_faults.specs.Faults.{BlamesDevices, IsEarly, IsOfWriter}
 use Rattle.lf_task_faults.specs.declared.faults.OutputKind.{OutputKind}
 use Rattle.lf_task_files.specs.Faults.{IsOutputFault}
@@ -44,6 +44,7 @@ unknown_early f teams (Refused file its) is = absurd is
 unknown_early f teams (File file why) is = absurd is
 unknown_early f teams (RefusedState path its) is = absurd is
 unknown_early f teams (NoTeam name) is = tt
+unknown_early f teams (RefusedTeam name cause) is = absurd is
 unknown_early f teams ReadFault is = absurd is
 unknown_early f teams WriteFault is = absurd is
 unknown_early f teams TooManyLines is = absurd is
@@ -54,10 +55,6 @@ unknown_early f teams Accept is = absurd is
 unknown_early f teams (NotWritten its_kind path why) is = absurd is
 unknown_early f teams SetupOutOfMemory is = absurd is
 unknown_early f teams OutputOutOfMemory is = absurd is
-
--- a failed allocation is reported when nothing is written yet
-pub memory_early : (fault : Fault) → fault ≡ SetupOutOfMemory → IsEarly fault
-memory_early fault is = subst IsEarly (sym is) tt
 
 -- a report that is not written blames the writer
 pub output_blames : (kept reader writer export service sound : Type 0) (fault : Fault) → fault ≡ Output → writer → BlamesDevices fault kept reader writer export service sound
@@ -73,7 +70,7 @@ output_blames kept reader writer export service sound fault is failed =
 
 -- a design was opened, and no work was done on it
 pub no_work : {Opened : Type 0} (work : Means Opened) (gives : ReadsFile) (job : Request) (begun : Begun Opened) → IsBegun work.opens gives job begun
-    → (before after : Option (List ℕ)) (old_puts new_puts : Option (List Put)) (fault : Fault) → IsWorkFault begun.floor.frame job fault → after ≡ before → new_puts ≡ old_puts
+    → (before after : Option (List ℕ)) (old_puts new_puts : Option (List Put)) (fault : Fault) → IsWorkFault work begun.floor job fault → after ≡ before → new_puts ≡ old_puts
     → IsTaskNotDone work gives job before after old_puts new_puts fault
 no_work work gives job begun is before after old_puts new_puts fault why same unput = inr record {
   text = is.text;

@@ -3,7 +3,6 @@
 use Rattle.std.specs.Prelude.{◌≡◌, ◌⊎◌, ◌+◌, ℕ, List, Option, is_some, length, map}
 use Rattle.lf_cli.specs.Command.{RepairPaths, repair_paths}
 use Rattle.lf_def.specs.Document.{Document}
-use Rattle.lf_floorplan.specs.declared.frame.Frame.{Frame}
 use Rattle.lf_floorplan.specs.declared.limits.Limits.{Limits}
 use Rattle.lf_floorplan.specs.declared.loaded.Loaded.{Loaded}
 use Rattle.lf_rules.specs.Legalizer.{Legalizer}
@@ -11,7 +10,6 @@ use Rattle.lf_io.specs.Shelf.{Put}
 use Rattle.lf_floor_model.specs.Designs.{initial_floor}
 use Rattle.lf_floor_model.specs.States.{FloorState}
 use Rattle.lf_task_faults.specs.declared.faults.Fault.{Fault}
-use Rattle.lf_task_faults.specs.declared.faults.Fault.TheVariants.{SetupOutOfMemory}
 use Rattle.lf_task_designs.specs.Designs.{AreKept, IsOpened, ReadsFile}
 use Rattle.lf_task_files.specs.Inputs.{path_of}
 use Rattle.lf_task_run.specs.declared.task.Begun.{Begun}
@@ -52,11 +50,13 @@ Opens Opened = ReadsFile → Request → List ℕ → Document → Loaded → Fl
 -- What a work means:
 -- - `opens` says what is opened
 -- - `refuses` says why nothing is opened
+-- - `fails` says why the work ends early, given the names of the selected teams and the floor before it
 -- - `does` holds for the names of the selected teams, what is opened, the floor before and after the
 --   work, and the report
 pub record Means (Opened : Type 0) : Type 1 where
   pub opens : Opens Opened
   pub refuses : ReadsFile → Request → Fault → Type 0
+  pub fails : List (List ℕ) → FloorState → Fault → Type 0
   pub does : List (List ℕ) → Opened → FloorState → FloorState → List ℕ → Type 0
 
 -- the design is opened, with the floor with which the work begins; its DEF text is kept if and only if
@@ -102,11 +102,11 @@ pub record IsTaskDone {Opened : Type 0} (work : Means Opened) (gives : ReadsFile
   pub done : IsWorkDone work job with begin floor kept report status
   pub put : IsPut job.files text document floor kept report before after old_puts new_puts
 
--- why no work is done on a design of this frame: a requested name is not a team's; a requested file
--- cannot be written; or an allocation fails
-abbrev pub IsWorkFault : Frame → Request → Fault → Type 0
-IsWorkFault f job fault =
-    IsUnknown f job.teams fault ⊎ (IsFileOutputFault job.files fault ⊎ (fault ≡ SetupOutOfMemory))
+-- why no work is done on this floor: a requested name is not a team's; a requested file cannot be
+-- written; or the work ends early
+abbrev pub IsWorkFault : {Opened : Type 0} → Means Opened → FloorState → Request → Fault → Type 0
+IsWorkFault {Opened} work begin job fault = IsUnknown begin.frame job.teams fault
+    ⊎ (IsFileOutputFault job.files fault ⊎ work.fails job.teams begin fault)
 
 -- the design was opened; no work was done and nothing was written; or the work was done, and the report
 -- or the requested files were not written
@@ -119,7 +119,7 @@ pub record IsTaskStopped {Opened : Type 0} (work : Means Opened) (gives : ReadsF
   pub begin : FloorState
   pub with : Opened
   pub begins : work.opens gives job text document loaded begin with
-  pub why : (IsWorkFault begin.frame job fault × (after ≡ before) × (new_puts ≡ old_puts))
+  pub why : (IsWorkFault work begin job fault × (after ≡ before) × (new_puts ≡ old_puts))
       ⊎ ((floor : FloorState) × (kept : Option (List ℕ)) × (report : List ℕ) × (status : ℕ)
       × IsWorkDone work job with begin floor kept report status
       × IsNotPut job.files text document floor kept report before after old_puts new_puts fault)

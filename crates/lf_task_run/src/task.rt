@@ -2,7 +2,6 @@
 
 ghost use Rattle.std.specs.Prelude.{◌≡◌, ◌+◌, IfErr, IfOk, OnErr, length};
 ghost use Rattle.lf_floor_model.specs.States.{FloorState};
-ghost use Rattle.lf_task_faults.specs.declared.faults.Fault.TheVariants.{SetupOutOfMemory};
 ghost use Rattle.lf_task_faults.specs.Faults.{IsEarly};
 ghost use Rattle.lf_task_run.specs.Commands.{kept_text};
 ghost use Rattle.lf_task_run.specs.Outputs.{BlamesOutputs, WritesExportAlone, WritesNoFile};
@@ -69,7 +68,8 @@ pub trait Work {
         ensures err { IfErr result ((means self.now).refuses (T.gives texts.now) (request_of job.now)) }
         ensures early { IfErr result IsEarly };
 
-    /// Does the work by commands to the floor. `Err` if an allocation fails.
+    /// Does the work by commands to the floor. `Err` if an allocation fails, or if the floor refuses a
+    /// command without which a team cannot be worked on.
     fn run<'f, P: Progress>(
         &self,
         alloc: Global,
@@ -83,7 +83,8 @@ pub trait Work {
         requires known { AreKnown floor.old.frame (request_of job.now).teams }
         ensures ok { IfOk result (λ done. IsWorkDone (means self.now) (request_of job.now) opened.now
             floor.old floor.new (kept_text done.lines) done.report.items done.status) }
-        ensures err { IfErr result (λ fault. fault ≡ SetupOutOfMemory) };
+        ensures err { IfErr result ((means self.now).fails (request_of job.now).teams floor.old) }
+        ensures early { IfErr result IsEarly };
 }
 
 /// Returns whether a cell's working place is not its committed one.
@@ -121,7 +122,7 @@ fn note_uncommitted<P: Progress>(
 /// - what the work opens: the files, the design, the state, and what the work needs besides
 /// - a name that is not a team's
 /// - the paths of the requested files
-/// - memory
+/// - memory, or a command that the floor refuses
 /// - the writer
 /// - the requested files: the texts with the committed and with the working places, the command
 ///   lines, and the state

@@ -10,13 +10,13 @@ use Rattle.lf_repair_team.proofs.cell_edits.run_edit_of.Goals as goal
 pub returns-in-Ok-clause-run : goal.returns-in-Ok-clause-run
 returns-in-Ok-clause-run g c = λ l.
     let team = c.args.session.now.team.now in
-    ok_from c.continue_unless_out_of_memory.result (IsWrittenRun l team c.args.floor.now (g.K.Sink.contents c.args.lines.now) (g.K.Sink.contents c.run_action.new.lines) c.run_action.new.floor)
+    ok_from c.continue_unless_exhausted.result (IsWrittenRun l team c.args.floor.now (g.K.Sink.contents c.args.lines.now) (g.K.Sink.contents c.run_action.new.lines) c.run_action.new.floor)
     (c.in-Ok.ensures.run l)
 
 pub returns-in-Ok-clause-err : goal.returns-in-Ok-clause-err
 returns-in-Ok-clause-err g c = λ l.
     let team = c.args.session.now.team.now in
-    err_from c.continue_unless_out_of_memory.result (IsRunWithCutLine l team c.args.floor.now (g.K.Sink.contents c.args.lines.now) (g.K.Sink.contents c.run_action.new.lines) c.run_action.new.floor)
+    err_from c.continue_unless_exhausted.result (IsRunWithCutLine l team c.args.floor.now (g.K.Sink.contents c.args.lines.now) (g.K.Sink.contents c.run_action.new.lines) c.run_action.new.floor)
     (uncut l team c.args.floor.now c.run_action.new.floor (g.K.Sink.contents c.args.lines.now) (g.K.Sink.contents c.run_action.new.lines) (c.in-Ok.ensures.run l))
 
 pub returns-in-Ok-clause-cells : goal.returns-in-Ok-clause-cells

@@ -13,13 +13,13 @@ use Rattle.lf_repair_team.proofs.session.close.Goals as goal
 pub returns-in-Ok-clause-run : goal.returns-in-Ok-clause-run
 returns-in-Ok-clause-run g c = λ l.
     let team = c.args.session.now.team.now in
-    ok_from c.continue_unless_out_of_memory.result (IsWrittenRun l team c.args.floor.now (g.K.Sink.contents c.args.lines.now) (g.K.Sink.contents c.run_action.new.lines) c.run_action.new.floor)
+    ok_from c.continue_unless_exhausted.result (IsWrittenRun l team c.args.floor.now (g.K.Sink.contents c.args.lines.now) (g.K.Sink.contents c.run_action.new.lines) c.run_action.new.floor)
     (c.in-Ok.ensures.run l)
 
 pub returns-in-Ok-clause-err : goal.returns-in-Ok-clause-err
 returns-in-Ok-clause-err g c = λ l.
     let team = c.args.session.now.team.now in
-    err_from c.continue_unless_out_of_memory.result (IsRunWithCutLine l team c.args.floor.now (g.K.Sink.contents c.args.lines.now) (g.K.Sink.contents c.run_action.new.lines) c.run_action.new.floor)
+    err_from c.continue_unless_exhausted.result (IsRunWithCutLine l team c.args.floor.now (g.K.Sink.contents c.args.lines.now) (g.K.Sink.contents c.run_action.new.lines) c.run_action.new.floor)
     (uncut l team c.args.floor.now c.run_action.new.floor (g.K.Sink.contents c.args.lines.now) (g.K.Sink.contents c.run_action.new.lines)
     (c.in-Ok.ensures.run l))
 
@@ -38,5 +38,5 @@ returns-in-Ok-clause-settings g c =
     let l = c.legalizer_exists.ensures in
     let team = c.args.session.now.team.now in
     let session = c.args.session.now.session in
-    on_ok_from c.continue_unless_out_of_memory.result (settings_in c.run_action.new.floor team ≡ settings_without session c.args.floor.now team)
+    on_ok_from c.continue_unless_exhausted.result (settings_in c.run_action.new.floor team ≡ settings_without session c.args.floor.now team)
     (close_frees l c.args.floor.now c.run_action.new.floor team session c.in-Ok.reply (c.in-Ok.ensures.replied l))

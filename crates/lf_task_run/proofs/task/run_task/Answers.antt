@@ -10,7 +10,7 @@ use Rattle.lf_task_files.proofs.WorkSteps.{blames_as, early_blames, export_blame
 use Rattle.lf_task_run.specs.Commands.{kept_text}
 use Rattle.lf_task_run.specs.Outputs.{IsNotPut, IsPut}
 use Rattle.lf_task_run.specs.Tasks.{IsWorkDone, request_of}
-use Rattle.lf_task_run.proofs.Ends.{memory_early, no_text, no_work, not_put, unknown_early}
+use Rattle.lf_task_run.proofs.Ends.{no_text, no_work, not_put, unknown_early}
 use Rattle.lf_task_run.proofs.task.run_task.Goals as goal
 
 pub run-requires : goal.run-requires
@@ -109,7 +109,7 @@ returns-in_err-results-clause-err g c =
     rw (p.1, p.2) (
       no_work (g.K.Work.means c.args.work.now) (g.T.InputFiles.gives c.args.texts.now) (request_of c.args.job.now) c.in_ok-begun.begun c.in_ok-begun.ensures.ok _ _ _ _ _
           (inr (inr c.in_err-results.ensures.err)) refl c.try_files.ensures.unput,
-      early_blames _ _ _ _ _ _ _ refl (refl, c.in_ok-try_files.ensures.sound) (memory_early _ c.in_err-results.ensures.err),
+      early_blames _ _ _ _ _ _ _ refl (refl, c.in_ok-try_files.ensures.sound) c.in_err-results.ensures.early,
     )
 
 pub returns-in_err-status-clause-unput : goal.returns-in_err-status-clause-unput
