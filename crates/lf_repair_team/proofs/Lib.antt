@@ -1,6 +1,6 @@
 mod Lines
 pub mod Runs
-mod Steps
+pub mod Steps
 pub mod Settings
 mod Cells
 mod Lists
@@ -8,7 +8,7 @@ pub mod Legal
 mod Ids
 mod Marking
 pub mod StatsLemmas
-mod Finding
+pub mod Finding
 mod Results
 mod Reverting
 mod OthersLegal

@@ -1,9 +1,6 @@
 -- The places from which the cells of a team were to move.
-use Rattle.std.proofs.Common.{◌≡◌, ◌∙◌, ℕ, List, [], ◌∷◌, map, Option, None, Some, ap, refl, subst, sym}
-use Rattle.std.specs.Prelude.{MatchOption, option_and_then, slice_get}
-use Rattle.std.specs.Option.{option_map}
-use Rattle.lf_cells.specs.declared.cell.Cell.{Cell}
-use Rattle.lf_cells.specs.Cells.{working_at}
+use Rattle.std.proofs.Common.{◌≡◌, ◌∙◌, ℕ, List, [], ◌∷◌, Option, None, Some, ap, subst, sym}
+use Rattle.std.specs.Prelude.{MatchOption, slice_get}
 use Rattle.lf_floorplan.specs.declared.place.Place.{Place}
 use Rattle.lf_floor_model.specs.States.{FloorState, TeamState}
 use Rattle.lf_floor_model.specs.Teams.{state_of, team_number}
@@ -12,6 +9,8 @@ use Rattle.lf_repair_bounds.specs.Gaps.{AreGaps, IsGapAt, PlacedTeam, gap_target
 use Rattle.lf_repair_strategy.specs.Targets.{AreWorkingPlaces}
 use Rattle.lf_repair_strategy.specs.declared.stats.RepairStats.{RepairStats}
 use Rattle.lf_repair_team.specs.TeamRepairs.{place_of_cell_in, team_cell_names}
+use Rattle.lf_repair_team.proofs.Finding.{team_was}
+use Rattle.lf_repair_team.proofs.Steps.{place_of_state}
 use Rattle.lf_task_reports.specs.declared.repair_report.RepairReport.{RepairReport}
 use Rattle.lf_task_reports.specs.RepairReports.{IsOneMore}
 
@@ -20,23 +19,6 @@ pub no_state : (floor : FloorState) (team : List ℕ) (s : TeamState) → team_n
 no_state floor team s none there = clash (sym (ap (λ (o : Option ℕ). state_at floor.teams o) none) ∙ there) where
   clash : None ≡ Some s → ⊥
   clash e = cc
-
--- a team with cells of the same names has a state on the other floor too
-had_state : (team : List ℕ) (old new : FloorState) (t : TeamState) → team_cell_names new team ≡ team_cell_names old team → state_of new team ≡ Some t
-    → (s : TeamState) × (state_of old team ≡ Some s)
-had_state team old new t same there = go (state_of old team) refl where
-  by_names : Option TeamState → Option (List (List ℕ))
-  by_names o = option_map (λ (s : TeamState). map (λ (c : Cell). c.name) s.cells) o
-
-  go : (o : Option TeamState) → state_of old team ≡ o → (s : TeamState) × (state_of old team ≡ Some s)
-  go (Some s) was = (s, was)
-  go None none = absurd (none_names (sym (ap by_names none) ∙ sym same ∙ ap by_names there)) where
-    none_names : None ≡ Some (map (λ (c : Cell). c.name) t.cells) → ⊥
-    none_names e = cc
-
--- the places of a team's cells are those of its state
-places_of_state : (floor : FloorState) (team : List ℕ) (own : ℕ) (s : TeamState) → state_of floor team ≡ Some s → place_of_cell_in floor team own ≡ working_at s.cells own
-places_of_state floor team own s there = ap (λ (o : Option TeamState). option_and_then (λ (s : TeamState). working_at s.cells own) o) there
 
 -- gaps near places are gaps near the same places
 gaps_alike : (t : PlacedTeam) (a b : ℕ → Option Place) → ((own : ℕ) → a own ≡ b own) → (owns gaps : List ℕ) → AreGaps t a owns gaps → AreGaps t b owns gaps
@@ -55,9 +37,9 @@ pub one_more_from : (begin floor : FloorState) (team : List ℕ) (places given :
 one_more_from begin floor team places given r old new are same same_places more = record {
   gaps = more.gaps;
   near = λ number s named there.
-      let was = had_state team begin floor s same there in
+      let was = team_was team begin floor s same there in
       gaps_alike (placed_team floor.frame number s.padding s.cells) (place_at given) (place_of_cell_in begin team)
-      (λ own. ap (λ (list : List (Option Place)). place_at list own) same_places ∙ are was.0 was.1 own ∙ sym (places_of_state begin team own was.0 was.1))
+      (λ own. ap (λ (list : List (Option Place)). place_at list own) same_places ∙ are was.0 was.1 own ∙ sym (place_of_state begin team own was.0 was.1))
       r.unrepaired.items more.gaps (more.near number s named there);
   text = more.text;
   sums = more.sums;
