@@ -67,11 +67,13 @@ pub trait Floor {
         ensures short { is_change result ≡ true → length reply.new.items ≤ short_limit }
         ensures capacity { vec_capacity reply.old ≤ vec_capacity reply.new };
 
-    /// Answers a line of the team that may change nothing.
-    fn look(&self, team: u32, line: &[u8], reply: &mut Vec<u8>)
+    /// Answers a line of the team that may change nothing. The floor is as it was, though a session
+    /// may be opened and closed meanwhile.
+    fn look(&mut self, team: u32, line: &[u8], reply: &mut Vec<u8>)
         requires empty { reply.old.items ≡ [] }
         requires room { short_limit ≤ vec_capacity reply.old }
-        ensures shows { shows team line.now self.now reply.new.items }
+        ensures shows { shows team line.now self.old reply.new.items }
+        ensures unchanged { self.new ≡ self.old }
         ensures capacity { vec_capacity reply.old ≤ vec_capacity reply.new };
 
     /// Closes a session of the team: writes the line that does so, and answers it.

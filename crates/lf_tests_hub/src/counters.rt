@@ -66,7 +66,7 @@ impl Floor for Counter {
         }
     }
 
-    fn look(&self, team: u32, line: &[u8], reply: &mut Vec<u8>) {
+    fn look(&mut self, team: u32, line: &[u8], reply: &mut Vec<u8>) {
         put(reply, b"ok\n");
     }
 
