@@ -68,9 +68,9 @@ GROUPS = {
     "hub": Group(
         "lf_hub lf_hub_*",
         "many clients over one floor. `_clients` has the lines and replies of connections, `_turns` says whose line is"
-        " next, and `lf_hub` joins them and has the laws. `_lines` reads the lines that the hub answers itself, and"
-        " `_wire` is its sockets; the others know no socket and no disk. No program uses these crates yet: the hub that"
-        " runs is `front/lefence/hub`",
+        " next, and `lf_hub` joins them and has the laws. `_lines` reads the lines that the hub answers itself,"
+        " `_wire` is its sockets, and `_serve` has the rounds over a wire and a journal; the others know no socket and"
+        " no disk. No program uses these crates yet: the hub that runs is `front/lefence/hub`",
     ),
     "floor": Group(
         "lf_floor lf_floor_*",

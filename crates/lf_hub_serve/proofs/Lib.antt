@@ -1,0 +1,4 @@
+pub mod Services
+pub mod Records
+pub mod Endings
+pub mod Runs

@@ -1,0 +1,9 @@
+use Rattle.std.proofs.Common.{ap, drop, ◌∙◌}
+use Rattle.lf_journal_text.specs.Records.{batch_text}
+use Rattle.lf_journal_text.proofs.Framing.{payload_there}
+use Rattle.lf_hub_serve.proofs.saving.make_batch.Goals as goal
+
+pub returns-clause-records : goal.returns-clause-records
+unfolding batch_text
+returns-clause-records c =
+    ap (drop 38) c.in_ok-batch.ensures.text ∙ payload_there c.args.time c.args.records.now c.requires.time c.requires.some c.requires.small c.requires.nonzero
