@@ -9,12 +9,15 @@
 //! - `clients`: what clients are sent, and when
 //! - `turns`: whose line is next
 //! - `sessions`: the sessions of clients that leave
+//! - `floors`: lines on the floor of a design
 #![tactic(auto)]
 
 #[cfg(test)]
 mod clients;
 #[cfg(test)]
 mod counters;
+#[cfg(test)]
+mod floors;
 #[cfg(test)]
 mod sessions;
 #[cfg(test)]
