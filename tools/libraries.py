@@ -68,9 +68,10 @@ GROUPS = {
     "hub": Group(
         "lf_hub lf_hub_*",
         "many clients over one floor. `_clients` has the lines and replies of connections, `_turns` says whose line is"
-        " next, and `lf_hub` joins them and has the laws. `_lines` reads the lines that the hub answers itself,"
-        " `_wire` is its sockets, and `_serve` has the rounds over a wire and a journal; the others know no socket and"
-        " no disk. No program uses these crates yet: the hub that runs is `front/lefence/hub`",
+        " next, and `lf_hub` joins them and has the laws. `_lines` reads the lines that the hub answers itself, `_floor`"
+        " says how the floor answers the others, `_wire` is its sockets, and `_serve` has the rounds over a wire and a"
+        " journal; the others know no socket and no disk. No program uses these crates yet: the hub that runs is"
+        " `front/lefence/hub`",
     ),
     "floor": Group(
         "lf_floor lf_floor_*",
@@ -184,11 +185,11 @@ RULES = (
         "A verdict or a search needs a frame and cells, wherever they come from.",
     ),
     Rule(
-        "hub -lf_hub_lines",
+        "hub -lf_hub_lines -lf_hub_floor",
         Kind.INDEPENDENT,
         "texts loading placement protocol floor state io",
         "What a hub does with lines does not depend on what they mean, nor on sockets and disks. Only `lf_hub_lines`"
-        " reads lines.",
+        " and `lf_hub_floor` read lines.",
     ),
     Rule(
         "lf_hub_lines",

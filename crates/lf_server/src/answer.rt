@@ -1,6 +1,6 @@
 //! Replies to lines, and the texts of short replies.
 
-ghost use Rattle.std.specs.Prelude.{◌≡◌, ◌≤◌, ℕ, decimal, false, length, option_map};
+ghost use Rattle.std.specs.Prelude.{◌≡◌, ◌≤◌, ℕ, decimal, false, length, option_map, vec_capacity};
 ghost use Rattle.std.specs.Fmt.{signed_decimal};
 ghost use Rattle.lf_orient.specs.Words.{orient_word};
 ghost use Rattle.lf_rules.specs.Legalizer.{Legalizer};
@@ -13,14 +13,13 @@ ghost use Rattle.lf_server.specs.Exchanges.{requested_on, requests_end, reply_ce
 ghost use Rattle.lf_server.specs.Connections.{KeepsDesign};
 ghost use Rattle.lf_server.specs.Progress.{IsAnswered, team_requested};
 
-use crate::line_buffer::LineBuffer;
 use lf_floor::{Floor, Response};
 use lf_floorplan::Place;
 use lf_legalize::Seeker;
 use lf_proto::{Command, Refusal, Reply, Request, parse_line, reply_text};
 
 /// Returns the request of a line, or `None` if the line is too long or is no request.
-pub(crate) fn request_of_line<'a>(line: Option<&'a [u8]>) -> Option<Request<'a>>
+pub fn request_of_line<'a>(line: Option<&'a [u8]>) -> Option<Request<'a>>
     ensures { option_map command_with_names result ≡ requested_on (option_map (λ bytes. bytes.now) line.entry) }
 {
     match parse_line(line?) {
@@ -123,23 +122,26 @@ fn text_fits(reply: &Reply, cell_name: &[u8], other_name: &[u8])
     }
 }
 
-/// Replaces the buffer's contents with the text of a reply to one of the team's commands. The reply
-/// is neither a report nor a DEF text.
-pub(crate) fn write_short_reply<K: Seeker + Drop>(
-    text: &mut LineBuffer,
+/// Replaces the contents of a buffer, which has room for 4,096 bytes, with the text of a reply to one
+/// of the team's commands. The reply is neither a report nor a DEF text.
+pub fn write_short_reply<K: Seeker + Drop>(
+    text: &mut Vec<u8>,
     floor: &Floor<K>,
     team: &[u8],
     reply: &Reply,
 )
-    requires { is_long reply.now ≡ false }
-    ensures { text.new.bytes.items ≡ reply_text_of floor.now team.now reply.now }
+    requires short { is_long reply.now ≡ false }
+    requires room { 4096 ≤ vec_capacity text.old }
+    ensures text { text.new.items ≡ reply_text_of floor.now team.now reply.now }
+    ensures length { length text.new.items ≤ 4096 }
+    ensures capacity { vec_capacity text.old ≤ vec_capacity text.new }
 {
     let (cell, other) = cells_in(reply);
     let cell_name = name_in(floor, team, cell);
     let other_name = name_in(floor, team, other);
     text_fits(reply, cell_name, other_name);
-    text.bytes.clear();
-    if reply_text(reply, cell_name, other_name, &mut text.bytes).is_err() {
+    text.clear();
+    if reply_text(reply, cell_name, other_name, text).is_err() {
         unreachable!();
     }
 }

@@ -6,6 +6,8 @@
 //! DEF text is written in chunks and is never in memory as a whole. The devices of `lf_io` are
 //! exported again.
 //!
+//! `request_of_line` and `write_short_reply` are for those who answer lines without a sink.
+//!
 //! Contracts describe a connection by its lines, the reply to each with its text, and the floor
 //! after it (`ServesLines`), if the bytes of input and output are known. How it ended determines
 //! which lines were acted on (`Ending`). In all cases the frame and the positions of components are
@@ -15,7 +17,7 @@
 //! receives and how each connection ends, and that no others were served (`AreServed`). This holds
 //! if the acceptor makes known what it accepts.
 //!
-//! Used by `lf_laws_slices`, `lf_task_serve` and `lf_app`.
+//! Used by `lf_hub_floor`, `lf_laws_slices`, `lf_task_serve` and `lf_app`.
 //!
 //! Modules, in reading order:
 //!
@@ -48,6 +50,7 @@ mod tcp;
 mod tcp_client;
 
 pub use acceptor::{Acceptor, Connection, ServiceConfig, accept_from};
+pub use answer::{request_of_line, write_short_reply};
 pub use laws::{replies_are_own, replies_follow_design, serving_runs};
 pub use lf_io::{DeviceFault, FromRead, Sink, Source, ToWrite, send};
 pub use serve_loop::{Ending, ServeLimits, Served, serve};

@@ -75,7 +75,7 @@ fn send_reply<K: Seeker + Drop, W: Sink>(
             send_both(sink, text.bytes.as_slice(), def.as_bytes())
         }
         _ => {
-            write_short_reply(text, floor, team, reply);
+            write_short_reply(&mut text.bytes, floor, team, reply);
             send(sink, text.bytes.as_slice())
         }
     }

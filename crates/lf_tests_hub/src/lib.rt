@@ -11,6 +11,7 @@
 //! - `clients`: what clients are sent, and when
 //! - `turns`: whose line is next
 //! - `sessions`: the sessions of clients that leave
+//! - `floors`: lines on the floor of a design
 //! - `wires`: a wire in memory that follows a script, for other modules
 //! - `served`: a hub that is served over such a wire
 //! - `sockets`: the wire of a process, over unix sockets
@@ -20,6 +21,8 @@
 mod clients;
 #[cfg(test)]
 mod counters;
+#[cfg(test)]
+mod floors;
 #[cfg(test)]
 mod served;
 #[cfg(test)]

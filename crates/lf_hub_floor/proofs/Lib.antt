@@ -1,0 +1,8 @@
+pub mod LongReplies
+pub mod Recording
+pub mod LineCases
+pub mod Runs
+pub mod OwnReplies
+pub mod Guests
+pub mod Executing
+pub mod ClosingLines

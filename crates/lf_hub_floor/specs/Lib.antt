@@ -1,0 +1,4 @@
+pub mod Answers
+pub mod Guests
+pub mod QueryAnswers
+pub mod Laws

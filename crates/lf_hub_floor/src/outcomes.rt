@@ -1,0 +1,86 @@
+//! What a reply says of its command.
+
+ghost use Rattle.std.specs.Prelude.{◌≡◌, ℕ, List};
+ghost use Rattle.lf_proto.specs.Commands.{command_with_names, order_of};
+ghost use Rattle.lf_proto.specs.Verbs.{action_of};
+ghost use Rattle.lf_proto.specs.declared.request.Command.TheVariants.{To};
+ghost use Rattle.lf_floor_model.specs.Journals.{is_query};
+ghost use Rattle.lf_floor_model.specs.VerbLaws.{is_ok};
+ghost use Rattle.lf_hub_floor.specs.Answers.{change_made, is_query_action, outcome_of, outcome_to};
+
+use lf_hub_clients::Outcome;
+use lf_proto::{Action, Command, Reply, Request, TeamCommand};
+
+/// Returns whether the command was accepted.
+fn is_ok(reply: &Reply) -> bool
+    ensures { result ≡ is_ok reply.now }
+{
+    match reply {
+        Reply::Refused(_) => false,
+        _ => true,
+    }
+}
+
+/// Returns whether the action is a query.
+fn is_query_action(action: &Action<&[u8]>) -> bool
+    ensures { result ≡ is_query_action (action_of action.now) }
+{
+    match action {
+        Action::Check => true,
+        Action::Def => true,
+        Action::Where { .. } => true,
+        Action::Find { .. } => true,
+        Action::Close => false,
+        Action::Sync => false,
+        Action::Change(_) => false,
+    }
+}
+
+/// Returns whether the command is a query.
+pub(crate) fn is_query(order: &TeamCommand<&[u8]>) -> bool
+    ensures { (team : List ℕ) → result ≡ is_query (To team (order_of order.now)) }
+{
+    match order {
+        TeamCommand::Open => false,
+        TeamCommand::Within { action, .. } => is_query_action(action),
+    }
+}
+
+/// Returns the outcome of an accepted command that is not a query.
+fn change_made(order: &TeamCommand<&[u8]>, reply: &Reply) -> Outcome
+    ensures { result ≡ change_made (order_of order.now) reply.now }
+{
+    match order {
+        TeamCommand::Open => match reply {
+            Reply::Opened { session, .. } => Outcome::Opened { session: *session },
+            _ => Outcome::Changed,
+        },
+        TeamCommand::Within { session, action } => match action {
+            Action::Close => Outcome::Closed { session: *session },
+            _ => Outcome::Changed,
+        },
+    }
+}
+
+/// Returns the outcome of a team's command with this reply.
+fn outcome_to(order: &TeamCommand<&[u8]>, reply: &Reply) -> Outcome
+    ensures { (team : List ℕ) → result ≡ outcome_to team (order_of order.now) reply.now }
+{
+    if !is_ok(reply) {
+        return Outcome::Unchanged;
+    }
+    if is_query(order) {
+        return Outcome::Unchanged;
+    }
+    change_made(order, reply)
+}
+
+/// Returns the outcome of a command with this reply.
+pub(crate) fn outcome_of(request: &Request, reply: &Reply) -> Outcome
+    ensures { result ≡ outcome_of (command_with_names request.now) reply.now }
+{
+    match request {
+        Command::Bye => Outcome::Ended,
+        Command::To { order, .. } => outcome_to(order, reply),
+    }
+}
