@@ -34,6 +34,6 @@ mod run;
 mod texts;
 
 pub use beginning::Beginning;
-pub use fault::{Refusal, RefusalKind, RunError};
+pub use fault::RunError;
 pub use laws::journals_run;
 pub use run::run_journal;

@@ -7,13 +7,18 @@ use Rattle.lf_lex.specs.declared.fault.FaultNumber.{FaultNumber}
 use Rattle.lf_lex.specs.declared.fault.FaultNumber.TheVariants as number
 use Rattle.lf_state_text.specs.declared.fault.StateFaultNumber.{StateFaultNumber as StateNumber}
 use Rattle.lf_state_text.specs.declared.fault.StateFaultNumber.TheVariants as state
+use Rattle.lf_journal_text.specs.declared.damage.DamageKind.{DamageKind}
+use Rattle.lf_journal_text.specs.declared.damage.DamageKind.TheVariants as damage
+use Rattle.lf_journal_text.specs.declared.refusal.Refusal.{Refusal}
+use Rattle.lf_journal_text.specs.declared.refusal.RefusalKind.{RefusalKind}
+use Rattle.lf_journal_text.specs.declared.refusal.RefusalKind.TheVariants as journal
 use Rattle.lf_task_faults.specs.declared.faults.TaskExit.{TaskExit}
 use Rattle.lf_task_faults.specs.declared.faults.Fault.{Fault}
-use Rattle.lf_task_faults.specs.declared.faults.Fault.TheVariants.{Refused, File, RefusedState, NoTeam, RefusedTeam, ReadFault, WriteFault, TooManyLines, OutOfMemory}
+use Rattle.lf_task_faults.specs.declared.faults.Fault.TheVariants.{Refused, File, RefusedState, RefusedJournal, NoTeam, RefusedTeam, ReadFault, WriteFault, TooManyLines, OutOfMemory}
 use Rattle.lf_task_faults.specs.declared.faults.Fault.TheVariants.{Output, Bind, Accept, NotWritten, SetupOutOfMemory, OutputOutOfMemory}
 use Rattle.lf_task_faults.specs.declared.faults.TextFile.{TextFile}
 use Rattle.lf_task_faults.specs.declared.faults.TextKind.{TextKind}
-use Rattle.lf_task_faults.specs.declared.faults.TextKind.TheVariants.{Lef, Def, State}
+use Rattle.lf_task_faults.specs.declared.faults.TextKind.TheVariants.{Lef, Def, State, Journal}
 use Rattle.lf_task_faults.specs.declared.faults.OutputKind.{OutputKind}
 use Rattle.lf_task_faults.specs.declared.faults.OutputKind.TheVariants.{Export, Save, Lines, Working}
 use Rattle.lf_task_faults.specs.declared.faults.TeamRefusal.{TeamRefusal}
@@ -72,6 +77,27 @@ state_numbered state.OtherVersion = codes "25 OtherVersion"
 state_numbered state.OtherDesign = codes "26 OtherDesign"
 state_numbered state.OutOfRange = codes "27 OutOfRange"
 
+-- The number and the name of the damage of a journal.
+abbrev pub damage_numbered : DamageKind → List ℕ
+damage_numbered damage.OtherVersion = codes "25 OtherVersion"
+damage_numbered damage.BadGate = codes "28 BadGate"
+damage_numbered damage.BadLength = codes "29 BadLength"
+damage_numbered damage.BadTime = codes "30 BadTime"
+damage_numbered damage.BadSum = codes "31 BadSum"
+damage_numbered damage.BadRecord = codes "32 BadRecord"
+
+-- The number and the name of a refusal of a journal.
+abbrev pub journal_numbered : RefusalKind → List ℕ
+journal_numbered (journal.Damaged kind) = damage_numbered kind
+journal_numbered journal.OtherTexts = codes "33 OtherTexts"
+journal_numbered journal.OtherSessions = codes "34 OtherSessions"
+journal_numbered journal.OtherState = codes "35 OtherState"
+journal_numbered journal.OtherReply = codes "36 OtherReply"
+
+-- A byte of a journal.
+abbrev pub byte_words : ℕ → List ℕ
+byte_words at = codes " byte " ++ decimal at
+
 -- The line of a refusal.
 abbrev pub line_words : Option ℕ → List ℕ
 line_words None = []
@@ -101,11 +127,16 @@ team_numbered unserved.Other = codes "35 CommandRefused"
 abbrev pub team_refusal_text : List ℕ → TeamRefusal → List ℕ
 team_refusal_text name why = team_numbered why ++ codes " " ++ name
 
+-- The text of a refusal of a journal: its number, its name and its byte.
+abbrev pub journal_refusal_text : Refusal → List ℕ
+journal_refusal_text refusal = journal_numbered refusal.kind ++ byte_words refusal.at
+
 -- The text of a fault: a refusal's own, or one word.
 abbrev pub fault_text : Fault → List ℕ
 fault_text (Refused file refusal) = refusal_text refusal
 fault_text (File file why) = codes "File"
 fault_text (RefusedState path refusal) = state_refusal_text refusal
+fault_text (RefusedJournal path refusal) = journal_refusal_text refusal
 fault_text (NoTeam name) = codes "NoTeam"
 fault_text (RefusedTeam name why) = team_refusal_text name.items why
 fault_text ReadFault = codes "ReadFault"
@@ -138,6 +169,7 @@ abbrev pub text_kind_words : TextKind → List ℕ
 text_kind_words Lef = codes "LEF file "
 text_kind_words Def = codes "DEF file "
 text_kind_words State = codes "state file "
+text_kind_words Journal = codes "journal file "
 
 -- The kind of a file, and its path.
 abbrev pub file_words : TextFile → List ℕ
@@ -225,6 +257,11 @@ abbrev pub state_line : List ℕ → StateRefusal → List ℕ
 state_line path refusal = codes "lefence: " ++ text_kind_words State ++ shown_bytes path ++ number_words refusal.line
     ++ bytes_words refusal.shown.items ++ 10 ∷ []
 
+-- The line of a refused journal.
+abbrev pub journal_line : List ℕ → Refusal → List ℕ
+journal_line path refusal =
+    codes "lefence: " ++ text_kind_words Journal ++ shown_bytes path ++ codes ":" ++ byte_words refusal.at ++ 10 ∷ []
+
 -- A port of this machine.
 abbrev pub port_text : ℕ → List ℕ
 port_text port = codes "port " ++ decimal port ++ codes " of 127.0.0.1"
@@ -241,6 +278,7 @@ hint_words kind (Some (Compressed its)) = []
 hint_words Lef (Some OtherKind) = codes " (read as LEF: is the DEF text first?)"
 hint_words Def (Some OtherKind) = codes " (read as DEF: is the DEF text first?)"
 hint_words State (Some OtherKind) = []
+hint_words Journal (Some OtherKind) = []
 
 -- The command that writes the text of a file of this compression.
 abbrev pub unpack_words : Compression → List ℕ
@@ -331,6 +369,7 @@ abbrev pub second_line : Fault → List ℕ
 second_line (Refused file refusal) = text_refusal_words file refusal
 second_line (File file why) = complaint_line (File file why)
 second_line (RefusedState path refusal) = state_line path.now refusal
+second_line (RefusedJournal path refusal) = journal_line path.now refusal
 second_line (NotWritten kind path why) = complaint_line (NotWritten kind path why)
 second_line (NoTeam name) = complaint_line (NoTeam name)
 second_line (RefusedTeam name why) = complaint_line (RefusedTeam name why)
@@ -347,6 +386,7 @@ fault_lines_text fault = fault_line fault ++ second_line fault
 abbrev pub status_of : Fault → ℕ
 status_of (Refused file refusal) = 1
 status_of (RefusedState path refusal) = 1
+status_of (RefusedJournal path refusal) = 1
 status_of (NoTeam name) = 1
 status_of (RefusedTeam name why) = 1
 status_of SetupOutOfMemory = 1
@@ -385,6 +425,7 @@ abbrev pub IsEarly : Fault → Type 0
 IsEarly (Refused file refusal) = Unit {0}
 IsEarly (File file why) = Unit {0}
 IsEarly (RefusedState path refusal) = Unit {0}
+IsEarly (RefusedJournal path refusal) = Unit {0}
 IsEarly (NoTeam name) = Unit {0}
 IsEarly (RefusedTeam name why) = Unit {0}
 IsEarly SetupOutOfMemory = Unit {0}
@@ -412,6 +453,7 @@ abbrev pub IsOfNone : Fault → Type 0
 IsOfNone (Refused file refusal) = Unit {0}
 IsOfNone (File file why) = Unit {0}
 IsOfNone (RefusedState path refusal) = Unit {0}
+IsOfNone (RefusedJournal path refusal) = Unit {0}
 IsOfNone (NoTeam name) = Unit {0}
 IsOfNone (RefusedTeam name why) = Unit {0}
 IsOfNone TooManyLines = Unit {0}

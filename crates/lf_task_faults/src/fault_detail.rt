@@ -5,15 +5,16 @@ ghost use Rattle.std.specs.Io.KnownBytes.{Appends};
 ghost use Rattle.std.specs.Char.{digit_char};
 ghost use Rattle.lf_task_faults.specs.Faults.{beside_words, bytes_words, complaint_line, complaint_words, compressed_words, earlier_words, fence_words, file_words, first_words};
 ghost use Rattle.lf_task_faults.specs.Faults.{hint_words, is_memory, conflict_words, number_words, output_kind_words, output_words, overlapped_fence_words, port_text, reason_words, refused_words, remark_words, text_refusal_words};
-ghost use Rattle.lf_task_faults.specs.Faults.{second_line, shown_bytes, shown_byte, shown_line, fence_line_words, state_line, subject_words, team_complaint, team_words};
+ghost use Rattle.lf_task_faults.specs.Faults.{second_line, shown_bytes, shown_byte, shown_line, fence_line_words, journal_line, state_line, subject_words, team_complaint, team_words};
 ghost use Rattle.lf_task_faults.specs.Faults.{claiming_fences_words, unbound_words, unpack_words, unreadable_words, unwritable_words};
 
-use crate::faults::{BindFailure, Fault, OutputKind, TeamRefusal, TextFile, TextKind};
+use crate::faults::{BindFailure, Fault, OutputKind, TeamRefusal, TextFile, TextKind, put_byte_number};
 use crate::hints::{Compression, Hint, Remark};
 use crate::read_failure::ReadFailureKind;
 use crate::text_refusal::{FenceLine, StateRefusal, TextRefusal};
 use itoa::Buffer;
 use lf_io::{DeviceFault, Sink, WriteFailureKind, send};
+use lf_journal_text::Refusal;
 use lf_lex::FaultNumber;
 
 /// Returns the hex digit of a number below 16.
@@ -66,6 +67,7 @@ fn put_text_file<W: Sink>(sink: &mut W, file: &TextFile<'_>) -> Result<(), Devic
         TextKind::Lef => send(sink, b"LEF file ")?,
         TextKind::Def => send(sink, b"DEF file ")?,
         TextKind::State => send(sink, b"state file ")?,
+        TextKind::Journal => send(sink, b"journal file ")?,
     }
     put_shown(sink, file.path.as_bytes())
 }
@@ -237,6 +239,7 @@ fn hint_words(kind: TextKind, hint: Option<Hint>) -> &'static [u8]
         (Some(Hint::OtherKind), TextKind::Lef) => b" (read as LEF: is the DEF text first?)",
         (Some(Hint::OtherKind), TextKind::Def) => b" (read as DEF: is the DEF text first?)",
         (Some(Hint::OtherKind), TextKind::State) => b"",
+        (Some(Hint::OtherKind), TextKind::Journal) => b"",
     }
 }
 
@@ -383,6 +386,24 @@ fn put_no_state<W: Sink>(
     send(sink, b"\n")
 }
 
+/// Writes where a journal is refused: the number of the byte.
+fn put_no_journal<W: Sink>(sink: &mut W, path: &str, refusal: &Refusal) -> Result<(), DeviceFault>
+    ensures ok { OnOk result
+        (Appends (W.contents sink.old) (W.contents sink.new) (journal_line path.now refusal.now)) }
+    ensures failed { OnErr result (W.has_failed sink.new ≡ true) }
+    ensures held { W.holds sink.new ≡ W.holds sink.old }
+{
+    let file = TextFile {
+        kind: TextKind::Journal,
+        path,
+    };
+    send(sink, b"lefence: ")?;
+    put_text_file(sink, &file)?;
+    send(sink, b":")?;
+    put_byte_number(sink, refusal.at)?;
+    send(sink, b"\n")
+}
+
 /// Writes a port of this machine.
 fn put_port<W: Sink>(sink: &mut W, port: u16) -> Result<(), DeviceFault>
     ensures ok { OnOk result (Appends (W.contents sink.old) (W.contents sink.new) (port_text port)) }
@@ -507,6 +528,7 @@ pub(crate) fn write_detail_line<W: Sink>(sink: &mut W, fault: &Fault<'_>) -> Res
         Fault::Refused { file, refusal } => put_refused(sink, file, refusal),
         Fault::File(_, _) => put_complaint(sink, fault),
         Fault::RefusedState(path, refusal) => put_no_state(sink, path, refusal),
+        Fault::RefusedJournal(path, refusal) => put_no_journal(sink, path, refusal),
         Fault::NotWritten(_, _, _) => put_complaint(sink, fault),
         Fault::NoTeam(_) => put_complaint(sink, fault),
         Fault::RefusedTeam(_, _) => put_complaint(sink, fault),
