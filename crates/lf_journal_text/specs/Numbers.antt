@@ -16,7 +16,7 @@ number_of BadRecord = 32
 -- The numbers of the refusals of a journal.
 abbrev pub refusal_number : RefusalKind → ℕ
 refusal_number (Damaged kind) = number_of kind
-refusal_number OtherTexts = 33
-refusal_number OtherSessions = 34
-refusal_number OtherState = 35
-refusal_number OtherReply = 36
+refusal_number OtherTexts = 36
+refusal_number OtherSessions = 37
+refusal_number OtherState = 38
+refusal_number OtherReply = 39

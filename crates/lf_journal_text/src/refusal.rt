@@ -35,10 +35,10 @@ impl RefusalKind {
     {
         match self {
             RefusalKind::Damaged(kind) => kind.number(),
-            RefusalKind::OtherTexts => 33,
-            RefusalKind::OtherSessions => 34,
-            RefusalKind::OtherState => 35,
-            RefusalKind::OtherReply => 36,
+            RefusalKind::OtherTexts => 36,
+            RefusalKind::OtherSessions => 37,
+            RefusalKind::OtherState => 38,
+            RefusalKind::OtherReply => 39,
         }
     }
 }

@@ -15,12 +15,12 @@ use Rattle.lf_journal_text.specs.declared.refusal.RefusalKind.TheVariants as jou
 use Rattle.lf_task_faults.specs.declared.faults.TaskExit.{TaskExit}
 use Rattle.lf_task_faults.specs.declared.faults.Fault.{Fault}
 use Rattle.lf_task_faults.specs.declared.faults.Fault.TheVariants.{Refused, File, RefusedState, RefusedJournal, NoTeam, RefusedTeam, ReadFault, WriteFault, TooManyLines, OutOfMemory}
-use Rattle.lf_task_faults.specs.declared.faults.Fault.TheVariants.{Output, Bind, Accept, NotWritten, SetupOutOfMemory, OutputOutOfMemory}
+use Rattle.lf_task_faults.specs.declared.faults.Fault.TheVariants.{Output, Bind, Accept, NotWritten, SetupOutOfMemory, OutputOutOfMemory, TeamDiffers, SliceDiffers}
 use Rattle.lf_task_faults.specs.declared.faults.TextFile.{TextFile}
 use Rattle.lf_task_faults.specs.declared.faults.TextKind.{TextKind}
 use Rattle.lf_task_faults.specs.declared.faults.TextKind.TheVariants.{Lef, Def, State, Journal}
 use Rattle.lf_task_faults.specs.declared.faults.OutputKind.{OutputKind}
-use Rattle.lf_task_faults.specs.declared.faults.OutputKind.TheVariants.{Export, Save, Lines, Working}
+use Rattle.lf_task_faults.specs.declared.faults.OutputKind.TheVariants.{Export, Save, Lines, Working, Slice}
 use Rattle.lf_task_faults.specs.declared.faults.TeamRefusal.{TeamRefusal}
 use Rattle.lf_task_faults.specs.declared.faults.TeamRefusal.TheVariants as unserved
 use Rattle.lf_task_faults.specs.declared.faults.BindFailure.{BindFailure}
@@ -89,10 +89,10 @@ damage_numbered damage.BadRecord = codes "32 BadRecord"
 -- The number and the name of a refusal of a journal.
 abbrev pub journal_numbered : RefusalKind → List ℕ
 journal_numbered (journal.Damaged kind) = damage_numbered kind
-journal_numbered journal.OtherTexts = codes "33 OtherTexts"
-journal_numbered journal.OtherSessions = codes "34 OtherSessions"
-journal_numbered journal.OtherState = codes "35 OtherState"
-journal_numbered journal.OtherReply = codes "36 OtherReply"
+journal_numbered journal.OtherTexts = codes "36 OtherTexts"
+journal_numbered journal.OtherSessions = codes "37 OtherSessions"
+journal_numbered journal.OtherState = codes "38 OtherState"
+journal_numbered journal.OtherReply = codes "39 OtherReply"
 
 -- A byte of a journal.
 abbrev pub byte_words : ℕ → List ℕ
@@ -139,6 +139,8 @@ fault_text (RefusedState path refusal) = state_refusal_text refusal
 fault_text (RefusedJournal path refusal) = journal_refusal_text refusal
 fault_text (NoTeam name) = codes "NoTeam"
 fault_text (RefusedTeam name why) = team_refusal_text name.items why
+fault_text (TeamDiffers path team) = codes "TeamDiffers"
+fault_text SliceDiffers = codes "SliceDiffers"
 fault_text ReadFault = codes "ReadFault"
 fault_text WriteFault = codes "WriteFault"
 fault_text TooManyLines = codes "TooManyLines"
@@ -243,6 +245,7 @@ output_kind_words Export = codes "export file "
 output_kind_words Save = codes "state file "
 output_kind_words Lines = codes "lines file "
 output_kind_words Working = codes "working export file "
+output_kind_words Slice = codes "slice file "
 
 -- The kind of a written file, and its path.
 abbrev pub output_words : OutputKind → List ℕ → List ℕ
@@ -251,6 +254,10 @@ output_words kind path = output_kind_words kind ++ shown_bytes path
 -- The name of a team.
 abbrev pub team_words : List ℕ → List ℕ
 team_words name = codes "team " ++ shown_bytes name
+
+-- A state file, and a team of it.
+abbrev pub state_team_words : List ℕ → List ℕ → List ℕ
+state_team_words path team = text_kind_words State ++ shown_bytes path ++ codes ": team " ++ shown_bytes team
 
 -- The line of a refused state text.
 abbrev pub state_line : List ℕ → StateRefusal → List ℕ
@@ -311,6 +318,8 @@ subject_words (File file why) = file_words file
 subject_words (NotWritten kind path why) = output_words kind path.now
 subject_words (NoTeam name) = team_words name.now
 subject_words (RefusedTeam name why) = team_words name.items
+subject_words (TeamDiffers path team) = state_team_words path.now team.items
+subject_words SliceDiffers = codes "the slice"
 subject_words (Bind port why) = port_text port
 subject_words _ = []
 
@@ -326,6 +335,8 @@ complaint_words (File file why) = codes " cannot be read"
 complaint_words (NotWritten kind path why) = codes " cannot be written"
 complaint_words (NoTeam name) = codes " is not in the design"
 complaint_words (RefusedTeam name why) = team_complaint why
+complaint_words (TeamDiffers path team) = codes " differs from that of an earlier state file, and both have changed it"
+complaint_words SliceDiffers = codes " has another frame or other cells of the team than the design"
 complaint_words (Bind port why) = codes " is not available"
 complaint_words _ = []
 
@@ -373,6 +384,8 @@ second_line (RefusedJournal path refusal) = journal_line path.now refusal
 second_line (NotWritten kind path why) = complaint_line (NotWritten kind path why)
 second_line (NoTeam name) = complaint_line (NoTeam name)
 second_line (RefusedTeam name why) = complaint_line (RefusedTeam name why)
+second_line (TeamDiffers path team) = complaint_line (TeamDiffers path team)
+second_line SliceDiffers = complaint_line SliceDiffers
 second_line (Bind port why) = complaint_line (Bind port why)
 second_line _ = []
 
@@ -389,6 +402,8 @@ status_of (RefusedState path refusal) = 1
 status_of (RefusedJournal path refusal) = 1
 status_of (NoTeam name) = 1
 status_of (RefusedTeam name why) = 1
+status_of (TeamDiffers path team) = 1
+status_of SliceDiffers = 1
 status_of SetupOutOfMemory = 1
 status_of OutputOutOfMemory = 1
 status_of _ = 3
@@ -428,6 +443,8 @@ IsEarly (RefusedState path refusal) = Unit {0}
 IsEarly (RefusedJournal path refusal) = Unit {0}
 IsEarly (NoTeam name) = Unit {0}
 IsEarly (RefusedTeam name why) = Unit {0}
+IsEarly (TeamDiffers path team) = Unit {0}
+IsEarly SliceDiffers = Unit {0}
 IsEarly SetupOutOfMemory = Unit {0}
 IsEarly _ = ⊥
 
@@ -456,6 +473,8 @@ IsOfNone (RefusedState path refusal) = Unit {0}
 IsOfNone (RefusedJournal path refusal) = Unit {0}
 IsOfNone (NoTeam name) = Unit {0}
 IsOfNone (RefusedTeam name why) = Unit {0}
+IsOfNone (TeamDiffers path team) = Unit {0}
+IsOfNone SliceDiffers = Unit {0}
 IsOfNone TooManyLines = Unit {0}
 IsOfNone OutOfMemory = Unit {0}
 IsOfNone SetupOutOfMemory = Unit {0}

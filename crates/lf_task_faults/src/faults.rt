@@ -49,6 +49,8 @@ pub enum OutputKind {
     Lines,
     /// The text with the working places.
     Working,
+    /// The slice of a team.
+    Slice,
 }
 
 /// Why the program cannot listen on a port, if the system reports it.
@@ -92,6 +94,11 @@ pub enum Fault<'a> {
     NoTeam(&'a str),
     /// The floor refused a command without which the team of this name cannot be repaired.
     RefusedTeam(Vec<u8>, TeamRefusal),
+    /// The state file of this path has another state of the team with this name than an earlier
+    /// state file, and both have changed it.
+    TeamDiffers(&'a str, Vec<u8>),
+    /// The text cut for a slice is not one of the design and the team.
+    SliceDiffers,
     /// The reader of lines failed, or the limit on reads was reached.
     ReadFault,
     /// A reply could not be written.
@@ -198,10 +205,10 @@ fn journal_numbered(kind: RefusalKind) -> &'static [u8]
 {
     match kind {
         RefusalKind::Damaged(kind) => damage_numbered(kind),
-        RefusalKind::OtherTexts => b"33 OtherTexts",
-        RefusalKind::OtherSessions => b"34 OtherSessions",
-        RefusalKind::OtherState => b"35 OtherState",
-        RefusalKind::OtherReply => b"36 OtherReply",
+        RefusalKind::OtherTexts => b"36 OtherTexts",
+        RefusalKind::OtherSessions => b"37 OtherSessions",
+        RefusalKind::OtherState => b"38 OtherState",
+        RefusalKind::OtherReply => b"39 OtherReply",
     }
 }
 
@@ -309,6 +316,8 @@ fn put_fault<W: Sink>(sink: &mut W, fault: &Fault<'_>) -> Result<(), DeviceFault
         Fault::RefusedJournal(_, refusal) => put_journal_refusal(sink, refusal),
         Fault::NoTeam(_) => send(sink, b"NoTeam"),
         Fault::RefusedTeam(name, why) => put_team_refusal(sink, name.as_slice(), *why),
+        Fault::TeamDiffers(_, _) => send(sink, b"TeamDiffers"),
+        Fault::SliceDiffers => send(sink, b"SliceDiffers"),
         Fault::ReadFault => send(sink, b"ReadFault"),
         Fault::WriteFault => send(sink, b"WriteFault"),
         Fault::TooManyLines => send(sink, b"TooManyLines"),
@@ -334,7 +343,8 @@ pub fn write_fault<W: Sink>(sink: &mut W, fault: &Fault<'_>) -> Result<(), Devic
 }
 
 /// Returns the exit status of a fault: 1 for `Refused`, `RefusedState`, `RefusedJournal`, `NoTeam`,
-/// `RefusedTeam`, `SetupOutOfMemory` and `OutputOutOfMemory`, otherwise 3.
+/// `RefusedTeam`, `TeamDiffers`, `SliceDiffers`, `SetupOutOfMemory` and `OutputOutOfMemory`,
+/// otherwise 3.
 pub fn status_of(fault: &Fault<'_>) -> u8
     ensures { result ≡ status_of fault.now }
 {
@@ -344,6 +354,8 @@ pub fn status_of(fault: &Fault<'_>) -> u8
         Fault::RefusedJournal(_, _) => 1,
         Fault::NoTeam(_) => 1,
         Fault::RefusedTeam(_, _) => 1,
+        Fault::TeamDiffers(_, _) => 1,
+        Fault::SliceDiffers => 1,
         Fault::SetupOutOfMemory => 1,
         Fault::OutputOutOfMemory => 1,
         _ => 3,

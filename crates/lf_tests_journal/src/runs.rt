@@ -222,7 +222,7 @@ fn other_replies_are_refused(rt: HostRuntime) -> Result<(), Fail> {
 #[test]
 fn refusals_have_numbers(rt: HostRuntime) -> Result<(), Fail> {
     assert_eq!(rt; RefusalKind::Damaged(DamageKind::BadGate).number(), 28);
-    assert_eq!(rt; RefusalKind::OtherTexts.number(), 33);
-    assert_eq!(rt; RefusalKind::OtherReply.number(), 36);
+    assert_eq!(rt; RefusalKind::OtherTexts.number(), 36);
+    assert_eq!(rt; RefusalKind::OtherReply.number(), 39);
     Ok(())
 }
