@@ -6,7 +6,7 @@ use Rattle.lf_cli.specs.declared.parse.Task.{Task}
 use Rattle.lf_cli.specs.declared.parse.Task.TheVariants.{Demo, Replay, Serve, Check, Describe, Improve, Repair, Wirelength}
 use Rattle.lf_cli.specs.Command.{Job, ReadsNone, RepairPaths, repair_paths, as_job, check, demo, describe, improve, repair, replay, serve, wirelength}
 use Rattle.lf_task_faults.specs.declared.faults.Fault.{Fault}
-use Rattle.lf_task_faults.specs.declared.faults.Fault.TheVariants.{Refused, File, RefusedState, NoTeam, RefusedTeam, ReadFault, WriteFault, TooManyLines, OutOfMemory, Output, Bind, Accept, NotWritten, SetupOutOfMemory, OutputOutOfMemory}
+use Rattle.lf_task_faults.specs.declared.faults.Fault.TheVariants.{Refused, File, RefusedState, RefusedJournal, NoTeam, RefusedTeam, ReadFault, WriteFault, TooManyLines, OutOfMemory, Output, Bind, Accept, NotWritten, SetupOutOfMemory, OutputOutOfMemory}
 use Rattle.lf_task_designs.specs.Designs.{ReadsFile}
 use Rattle.lf_task_faults.specs.Faults.{status_of}
 use Rattle.lf_app.specs.Exits.{IsJobOutcome}
@@ -28,6 +28,7 @@ pub failing : (fault : Fault) (status : ℕ) → status ≡ status_of fault → 
 failing (Refused file refusal) status is = inl is
 failing (File file why) status is = inr is
 failing (RefusedState path refusal) status is = inl is
+failing (RefusedJournal path refusal) status is = inl is
 failing (NoTeam name) status is = inl is
 failing (RefusedTeam name cause) status is = inl is
 failing ReadFault status is = inr is

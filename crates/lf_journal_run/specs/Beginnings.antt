@@ -2,8 +2,8 @@
 use Rattle.std.specs.Prelude.{ℕ, List, [], ◌∷◌, Option, Some, None, take, if◌then◌else◌}
 use Rattle.std.specs.Str.{bytes_eq}
 use Rattle.lf_journal_text.specs.Records.{Entry, Log, title}
-use Rattle.lf_journal_run.specs.declared.fault.RefusalKind.{RefusalKind}
-use Rattle.lf_journal_run.specs.declared.fault.RefusalKind.TheVariants.{OtherTexts, OtherSessions, OtherState}
+use Rattle.lf_journal_text.specs.declared.refusal.RefusalKind.{RefusalKind}
+use Rattle.lf_journal_text.specs.declared.refusal.RefusalKind.TheVariants.{OtherTexts, OtherSessions, OtherState}
 
 -- The first record of a journal of the design of this line (it begins with the number of session slots in 10
 -- digits), which begins with the state of this name.

@@ -1,4 +1,3 @@
-pub mod Numbers
 pub mod Beginnings
 pub mod Texts
 pub mod Runs

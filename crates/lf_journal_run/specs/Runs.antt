@@ -11,9 +11,9 @@ use Rattle.lf_journal_text.specs.Records.{Log, segment_of}
 use Rattle.lf_journal_text.specs.declared.damage.Damage.{Damage}
 use Rattle.lf_journal_run.specs.Beginnings.{due_beginning, other_beginning}
 use Rattle.lf_journal_run.specs.Texts.{entries_in, lines_text, replies_text, record_byte, same_lines}
-use Rattle.lf_journal_run.specs.declared.fault.Refusal.{Refusal}
-use Rattle.lf_journal_run.specs.declared.fault.RefusalKind.{RefusalKind}
-use Rattle.lf_journal_run.specs.declared.fault.RefusalKind.TheVariants.{Damaged, OtherReply}
+use Rattle.lf_journal_text.specs.declared.refusal.Refusal.{Refusal}
+use Rattle.lf_journal_text.specs.declared.refusal.RefusalKind.{RefusalKind}
+use Rattle.lf_journal_text.specs.declared.refusal.RefusalKind.TheVariants.{Damaged, OtherReply}
 use Rattle.lf_journal_run.specs.declared.fault.RunError.{RunError}
 use Rattle.lf_journal_run.specs.declared.fault.RunError.TheVariants.{Memory, Refused}
 

@@ -4,8 +4,7 @@ ghost use Rattle.std.specs.Prelude.{◌≡◌, map, take};
 ghost use Rattle.lf_journal_text.specs.Views.{entry_of, log_of};
 ghost use Rattle.lf_journal_run.specs.Beginnings.{due_beginning, other_beginning, other_first, other_in};
 
-use crate::fault::RefusalKind;
-use lf_journal_text::{Batch, Record};
+use lf_journal_text::{Batch, Record, RefusalKind};
 
 /// The digits of the number of session slots in the line of a design.
 const SESSION_DIGITS: usize = 10;

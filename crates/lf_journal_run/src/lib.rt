@@ -11,10 +11,10 @@
 //! | refusal | what it means |
 //! |---|---|
 //! | 25, 28 to 32 | the segment is damaged (`DamageKind`) |
-//! | `33 OtherTexts` | the segment is that of a design of other texts |
-//! | `34 OtherSessions` | it is that of a floor with another number of session slots |
-//! | `35 OtherState` | it begins with another state |
-//! | `36 OtherReply` | the reply to a line is not the recorded one |
+//! | `36 OtherTexts` | the segment is that of a design of other texts |
+//! | `37 OtherSessions` | it is that of a floor with another number of session slots |
+//! | `38 OtherState` | it begins with another state |
+//! | `39 OtherReply` | the reply to a line is not the recorded one |
 //!
 //! Modules, in reading order:
 //!
@@ -34,6 +34,6 @@ mod run;
 mod texts;
 
 pub use beginning::Beginning;
-pub use fault::{Refusal, RefusalKind, RunError};
+pub use fault::RunError;
 pub use laws::journals_run;
 pub use run::run_journal;

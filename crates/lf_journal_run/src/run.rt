@@ -9,11 +9,11 @@ ghost use Rattle.lf_journal_run.specs.Runs.{GetsOtherReply, IsNotRead, IsNotRun,
 ghost use Rattle.lf_journal_run.specs.Texts.{logs_size, same_lines};
 
 use crate::beginning::{Beginning, other_beginning};
-use crate::fault::{Refusal, RefusalKind, RunError};
+use crate::fault::RunError;
 use crate::replies::{Replies, replies_to};
 use crate::texts::{put_all_lines, put_all_replies, record_byte, same_lines};
 use lf_floor::Floor;
-use lf_journal_text::{Batch, ReadError, read_segment};
+use lf_journal_text::{Batch, ReadError, Refusal, RefusalKind, read_segment};
 use lf_legalize::Seeker;
 use lf_server::Ending;
 use std::alloc::{AllocError, Global};

@@ -141,6 +141,14 @@ pub record ReadsPrefix (logs : List Log) (cut : List ℕ) : Type 0 where
 unfoldable pub state_name : List ℕ → List ℕ
 state_name state = digits_of 13 (length state) ++ (32 ∷ digits_of 10 (sum_from 0 state))
 
+-- The names of texts, each behind a space.
+abbrev pub names_text : List (List ℕ) → List ℕ
+names_text names = flat_map (λ (name : List ℕ). 32 ∷ name) names
+
+-- The line of a design: the number of session slots in 10 digits, and the names of its texts, the DEF text first.
+abbrev pub design_line : ℕ → List (List ℕ) → List ℕ
+design_line sessions names = digits_of 10 sessions ++ names_text names
+
 -- The beginning of a segment of this design that begins with this state.
 abbrev pub beginning : List ℕ → List ℕ → Entry
 beginning design state = record { origin = title; line = design; reply = state_name state }

@@ -1,18 +1,18 @@
 //! The beginning of a segment.
 
-ghost use Rattle.std.specs.Prelude.{◌≡◌, ◌<◌, ◌^◌, ◌++◌, true, length, IfOk, OnOk};
+ghost use Rattle.std.specs.Prelude.{◌≡◌, ◌<◌, ◌^◌, ◌++◌, true, length, map, IfOk, OnOk};
 ghost use Rattle.std.specs.Str.{bytes_eq};
 ghost use Rattle.lf_journal_text.specs.Batches.{IsBatch};
-ghost use Rattle.lf_journal_text.specs.Records.{beginning, beginning_text, entry_text, is_line, state_name};
+ghost use Rattle.lf_journal_text.specs.Records.{beginning, beginning_text, design_line, entry_text, is_line, names_text, state_name};
 
 use crate::batch::sum_from;
 use crate::frame::{batch_of, write_digits};
 use crate::records::{Record, write_record};
 use std::alloc::{AllocError, Global};
 
-/// Returns the name of a state: its length and its sum.
+/// Returns the name of a state, or of a text of the design: its length and its sum.
 #[tactic(auto, unfolding(crate::specs::Records::state_name))]
-fn name_of(alloc: Global, state: &[u8]) -> Result<Vec<u8>, AllocError>
+pub fn text_name(alloc: Global, state: &[u8]) -> Result<Vec<u8>, AllocError>
     ensures { IfOk result (λ name. name.items ≡ state_name state.now) }
 {
     let mut name = Vec::new(alloc);
@@ -26,8 +26,30 @@ fn name_of(alloc: Global, state: &[u8]) -> Result<Vec<u8>, AllocError>
 pub fn names_state(alloc: Global, name: &[u8], state: &[u8]) -> Result<bool, AllocError>
     ensures { IfOk result (λ same. same ≡ bytes_eq name.now (state_name state.now)) }
 {
-    let due = name_of(alloc, state)?;
+    let due = text_name(alloc, state)?;
     Ok(name == due.as_slice())
+}
+
+/// Appends the names of texts, each behind a space.
+fn put_names(line: &mut Vec<u8>, names: &[Vec<u8>]) -> Result<(), AllocError>
+    ensures { OnOk result (line.new.items ≡ line.old.items ++ names_text (map (λ name. name.items) names.now)) }
+{
+    for name in names {
+        line.push(b' ')?;
+        line.extend_from_slice(name)?;
+    }
+    Ok(())
+}
+
+/// Returns the line of a design: the number of session slots, and the names of the DEF text and of
+/// each LEF text.
+pub fn design_line(alloc: Global, sessions: u64, names: &[Vec<u8>]) -> Result<Vec<u8>, AllocError>
+    ensures { IfOk result (λ line. line.items ≡ design_line sessions (map (λ name. name.items) names.now)) }
+{
+    let mut line = Vec::new(alloc);
+    write_digits(&mut line, 10, sessions)?;
+    put_names(&mut line, names)?;
+    Ok(line)
 }
 
 /// Returns the batch with which a segment begins. `design` is a line of the hub's: what a start
@@ -44,7 +66,7 @@ pub fn beginning_of(
     ensures text { IfOk result (λ batch. batch.items ≡ beginning_text time design.now state.now) }
     ensures batch { IfOk result (λ batch. IsBatch batch.items) }
 {
-    let name = name_of(alloc, state)?;
+    let name = text_name(alloc, state)?;
     let mut records = Vec::new(alloc);
     let record = Record {
         origin: b"lefence-journal 4",

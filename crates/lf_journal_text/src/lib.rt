@@ -27,11 +27,12 @@
 //! - a zero in place of a byte of a header, if only zeros follow from 128 KiB behind the gate on
 //! - a zero in place of another byte of the last batch
 //!
-//! Used by `lf_journal` and `lf_tests_journal`.
+//! Used by `lf_journal`, `lf_journal_run`, `lf_task_faults`, `lf_task_files` and `lf_tests_journal`.
 //!
 //! Modules, in reading order:
 //!
 //! - `damage`: damage and its kinds
+//! - `refusal`: why a journal is refused
 //! - `batch`: whole batches, and torn ones
 //! - `records`: records
 //! - `frame`: the text of a batch
@@ -52,10 +53,11 @@ mod damage;
 mod frame;
 mod laws;
 mod records;
+mod refusal;
 mod segment;
 
 pub use batch::{damage_kind, is_torn, size_of_batch, whole_length};
-pub use beginning::{beginning_of, names_state};
+pub use beginning::{beginning_of, design_line, names_state, text_name};
 pub use damage::{Damage, DamageKind};
 pub use frame::batch_of;
 pub use laws::{
@@ -63,4 +65,5 @@ pub use laws::{
     records_read_back,
 };
 pub use records::{Record, records_of, write_record};
+pub use refusal::{Refusal, RefusalKind};
 pub use segment::{Batch, ReadError, read_segment};

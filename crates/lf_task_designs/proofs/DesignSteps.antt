@@ -12,7 +12,7 @@ use Rattle.lf_def.specs.Document.{Document, document_of}
 use Rattle.lf_floorplan.specs.declared.limits.Limits.{Limits}
 use Rattle.lf_frame.specs.Conflicts.{Conflict, no_fence}
 use Rattle.lf_task_faults.specs.declared.faults.Fault.{Fault}
-use Rattle.lf_task_faults.specs.declared.faults.Fault.TheVariants.{Refused, File, RefusedState, NoTeam, RefusedTeam, ReadFault, WriteFault, TooManyLines, OutOfMemory, Output, Bind, Accept, NotWritten, SetupOutOfMemory, OutputOutOfMemory}
+use Rattle.lf_task_faults.specs.declared.faults.Fault.TheVariants.{Refused, File, RefusedState, RefusedJournal, NoTeam, RefusedTeam, TeamDiffers, SliceDiffers, ReadFault, WriteFault, TooManyLines, OutOfMemory, Output, Bind, Accept, NotWritten, SetupOutOfMemory, OutputOutOfMemory}
 use Rattle.lf_task_faults.specs.declared.faults.TextKind.{TextKind}
 use Rattle.lf_task_faults.specs.declared.faults.TextKind.TheVariants.{Lef, Def}
 use Rattle.lf_task_faults.specs.Refusals.{IsReportedConflict}
@@ -24,8 +24,11 @@ pub refused_as : (kind : TextKind) (path text : List ℕ) (P Q : RefusalCause) (
 refused_as kind path text P Q (Refused file its) is gives = (is.0, (is.1.0, is.1.1, gives is.1.0 is.1.1 is.1.2, is.1.3))
 refused_as kind path text P Q (File file why) is gives = absurd is
 refused_as kind path text P Q (RefusedState its_path its) is gives = absurd is
+refused_as kind path text P Q (RefusedJournal its_path its) is gives = absurd is
 refused_as kind path text P Q (NoTeam name) is gives = absurd is
 refused_as kind path text P Q (RefusedTeam name cause) is gives = absurd is
+refused_as kind path text P Q (TeamDiffers differing team) is gives = absurd is
+refused_as kind path text P Q SliceDiffers is gives = absurd is
 refused_as kind path text P Q ReadFault is gives = absurd is
 refused_as kind path text P Q WriteFault is gives = absurd is
 refused_as kind path text P Q TooManyLines is gives = absurd is

@@ -31,7 +31,7 @@ mod opening;
 pub use check_report::{illegal_in, report_design};
 pub use input_files::{FsInputFiles, InputFiles, single_chunk};
 pub use loading::{
-    add_text, def_file, lef_file, library_of, limits_for, load_document, load_files, load_texts,
-    read_document, read_file_chunks, read_text, text_refusal,
+    add_text, def_file, lef_file, library_of, limits_for, load_document, load_files, load_text,
+    load_texts, read_document, read_file_chunks, read_text, text_refusal,
 };
 pub use opening::{OpenedDesign, SourceText, open_design};

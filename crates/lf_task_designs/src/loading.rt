@@ -228,7 +228,7 @@ pub fn load_document<'a>(
 }
 
 /// Loads the design of a DEF text, of the file `path`, over the library.
-fn load_text<'a>(
+pub fn load_text<'a>(
     alloc: Global,
     limits: Limits,
     library: &Library,

@@ -7,15 +7,20 @@ use Rattle.lf_lex.specs.declared.fault.FaultNumber.{FaultNumber}
 use Rattle.lf_lex.specs.declared.fault.FaultNumber.TheVariants as number
 use Rattle.lf_state_text.specs.declared.fault.StateFaultNumber.{StateFaultNumber as StateNumber}
 use Rattle.lf_state_text.specs.declared.fault.StateFaultNumber.TheVariants as state
+use Rattle.lf_journal_text.specs.declared.damage.DamageKind.{DamageKind}
+use Rattle.lf_journal_text.specs.declared.damage.DamageKind.TheVariants as damage
+use Rattle.lf_journal_text.specs.declared.refusal.Refusal.{Refusal}
+use Rattle.lf_journal_text.specs.declared.refusal.RefusalKind.{RefusalKind}
+use Rattle.lf_journal_text.specs.declared.refusal.RefusalKind.TheVariants as journal
 use Rattle.lf_task_faults.specs.declared.faults.TaskExit.{TaskExit}
 use Rattle.lf_task_faults.specs.declared.faults.Fault.{Fault}
-use Rattle.lf_task_faults.specs.declared.faults.Fault.TheVariants.{Refused, File, RefusedState, NoTeam, RefusedTeam, ReadFault, WriteFault, TooManyLines, OutOfMemory}
-use Rattle.lf_task_faults.specs.declared.faults.Fault.TheVariants.{Output, Bind, Accept, NotWritten, SetupOutOfMemory, OutputOutOfMemory}
+use Rattle.lf_task_faults.specs.declared.faults.Fault.TheVariants.{Refused, File, RefusedState, RefusedJournal, NoTeam, RefusedTeam, ReadFault, WriteFault, TooManyLines, OutOfMemory}
+use Rattle.lf_task_faults.specs.declared.faults.Fault.TheVariants.{Output, Bind, Accept, NotWritten, SetupOutOfMemory, OutputOutOfMemory, TeamDiffers, SliceDiffers}
 use Rattle.lf_task_faults.specs.declared.faults.TextFile.{TextFile}
 use Rattle.lf_task_faults.specs.declared.faults.TextKind.{TextKind}
-use Rattle.lf_task_faults.specs.declared.faults.TextKind.TheVariants.{Lef, Def, State}
+use Rattle.lf_task_faults.specs.declared.faults.TextKind.TheVariants.{Lef, Def, State, Journal}
 use Rattle.lf_task_faults.specs.declared.faults.OutputKind.{OutputKind}
-use Rattle.lf_task_faults.specs.declared.faults.OutputKind.TheVariants.{Export, Save, Lines, Working}
+use Rattle.lf_task_faults.specs.declared.faults.OutputKind.TheVariants.{Export, Save, Lines, Working, Slice}
 use Rattle.lf_task_faults.specs.declared.faults.TeamRefusal.{TeamRefusal}
 use Rattle.lf_task_faults.specs.declared.faults.TeamRefusal.TheVariants as unserved
 use Rattle.lf_task_faults.specs.declared.faults.BindFailure.{BindFailure}
@@ -72,6 +77,27 @@ state_numbered state.OtherVersion = codes "25 OtherVersion"
 state_numbered state.OtherDesign = codes "26 OtherDesign"
 state_numbered state.OutOfRange = codes "27 OutOfRange"
 
+-- The number and the name of the damage of a journal.
+abbrev pub damage_numbered : DamageKind → List ℕ
+damage_numbered damage.OtherVersion = codes "25 OtherVersion"
+damage_numbered damage.BadGate = codes "28 BadGate"
+damage_numbered damage.BadLength = codes "29 BadLength"
+damage_numbered damage.BadTime = codes "30 BadTime"
+damage_numbered damage.BadSum = codes "31 BadSum"
+damage_numbered damage.BadRecord = codes "32 BadRecord"
+
+-- The number and the name of a refusal of a journal.
+abbrev pub journal_numbered : RefusalKind → List ℕ
+journal_numbered (journal.Damaged kind) = damage_numbered kind
+journal_numbered journal.OtherTexts = codes "36 OtherTexts"
+journal_numbered journal.OtherSessions = codes "37 OtherSessions"
+journal_numbered journal.OtherState = codes "38 OtherState"
+journal_numbered journal.OtherReply = codes "39 OtherReply"
+
+-- A byte of a journal.
+abbrev pub byte_words : ℕ → List ℕ
+byte_words at = codes " byte " ++ decimal at
+
 -- The line of a refusal.
 abbrev pub line_words : Option ℕ → List ℕ
 line_words None = []
@@ -101,13 +127,20 @@ team_numbered unserved.Other = codes "35 CommandRefused"
 abbrev pub team_refusal_text : List ℕ → TeamRefusal → List ℕ
 team_refusal_text name why = team_numbered why ++ codes " " ++ name
 
+-- The text of a refusal of a journal: its number, its name and its byte.
+abbrev pub journal_refusal_text : Refusal → List ℕ
+journal_refusal_text refusal = journal_numbered refusal.kind ++ byte_words refusal.at
+
 -- The text of a fault: a refusal's own, or one word.
 abbrev pub fault_text : Fault → List ℕ
 fault_text (Refused file refusal) = refusal_text refusal
 fault_text (File file why) = codes "File"
 fault_text (RefusedState path refusal) = state_refusal_text refusal
+fault_text (RefusedJournal path refusal) = journal_refusal_text refusal
 fault_text (NoTeam name) = codes "NoTeam"
 fault_text (RefusedTeam name why) = team_refusal_text name.items why
+fault_text (TeamDiffers path team) = codes "TeamDiffers"
+fault_text SliceDiffers = codes "SliceDiffers"
 fault_text ReadFault = codes "ReadFault"
 fault_text WriteFault = codes "WriteFault"
 fault_text TooManyLines = codes "TooManyLines"
@@ -138,6 +171,7 @@ abbrev pub text_kind_words : TextKind → List ℕ
 text_kind_words Lef = codes "LEF file "
 text_kind_words Def = codes "DEF file "
 text_kind_words State = codes "state file "
+text_kind_words Journal = codes "journal file "
 
 -- The kind of a file, and its path.
 abbrev pub file_words : TextFile → List ℕ
@@ -211,6 +245,7 @@ output_kind_words Export = codes "export file "
 output_kind_words Save = codes "state file "
 output_kind_words Lines = codes "lines file "
 output_kind_words Working = codes "working export file "
+output_kind_words Slice = codes "slice file "
 
 -- The kind of a written file, and its path.
 abbrev pub output_words : OutputKind → List ℕ → List ℕ
@@ -220,10 +255,19 @@ output_words kind path = output_kind_words kind ++ shown_bytes path
 abbrev pub team_words : List ℕ → List ℕ
 team_words name = codes "team " ++ shown_bytes name
 
+-- A state file, and a team of it.
+abbrev pub state_team_words : List ℕ → List ℕ → List ℕ
+state_team_words path team = text_kind_words State ++ shown_bytes path ++ codes ": team " ++ shown_bytes team
+
 -- The line of a refused state text.
 abbrev pub state_line : List ℕ → StateRefusal → List ℕ
 state_line path refusal = codes "lefence: " ++ text_kind_words State ++ shown_bytes path ++ number_words refusal.line
     ++ bytes_words refusal.shown.items ++ 10 ∷ []
+
+-- The line of a refused journal.
+abbrev pub journal_line : List ℕ → Refusal → List ℕ
+journal_line path refusal =
+    codes "lefence: " ++ text_kind_words Journal ++ shown_bytes path ++ codes ":" ++ byte_words refusal.at ++ 10 ∷ []
 
 -- A port of this machine.
 abbrev pub port_text : ℕ → List ℕ
@@ -241,6 +285,7 @@ hint_words kind (Some (Compressed its)) = []
 hint_words Lef (Some OtherKind) = codes " (read as LEF: is the DEF text first?)"
 hint_words Def (Some OtherKind) = codes " (read as DEF: is the DEF text first?)"
 hint_words State (Some OtherKind) = []
+hint_words Journal (Some OtherKind) = []
 
 -- The command that writes the text of a file of this compression.
 abbrev pub unpack_words : Compression → List ℕ
@@ -273,6 +318,8 @@ subject_words (File file why) = file_words file
 subject_words (NotWritten kind path why) = output_words kind path.now
 subject_words (NoTeam name) = team_words name.now
 subject_words (RefusedTeam name why) = team_words name.items
+subject_words (TeamDiffers path team) = state_team_words path.now team.items
+subject_words SliceDiffers = codes "the slice"
 subject_words (Bind port why) = port_text port
 subject_words _ = []
 
@@ -288,6 +335,8 @@ complaint_words (File file why) = codes " cannot be read"
 complaint_words (NotWritten kind path why) = codes " cannot be written"
 complaint_words (NoTeam name) = codes " is not in the design"
 complaint_words (RefusedTeam name why) = team_complaint why
+complaint_words (TeamDiffers path team) = codes " differs from that of an earlier state file, and both have changed it"
+complaint_words SliceDiffers = codes " has another frame or other cells of the team than the design"
 complaint_words (Bind port why) = codes " is not available"
 complaint_words _ = []
 
@@ -331,9 +380,12 @@ abbrev pub second_line : Fault → List ℕ
 second_line (Refused file refusal) = text_refusal_words file refusal
 second_line (File file why) = complaint_line (File file why)
 second_line (RefusedState path refusal) = state_line path.now refusal
+second_line (RefusedJournal path refusal) = journal_line path.now refusal
 second_line (NotWritten kind path why) = complaint_line (NotWritten kind path why)
 second_line (NoTeam name) = complaint_line (NoTeam name)
 second_line (RefusedTeam name why) = complaint_line (RefusedTeam name why)
+second_line (TeamDiffers path team) = complaint_line (TeamDiffers path team)
+second_line SliceDiffers = complaint_line SliceDiffers
 second_line (Bind port why) = complaint_line (Bind port why)
 second_line _ = []
 
@@ -347,8 +399,11 @@ fault_lines_text fault = fault_line fault ++ second_line fault
 abbrev pub status_of : Fault → ℕ
 status_of (Refused file refusal) = 1
 status_of (RefusedState path refusal) = 1
+status_of (RefusedJournal path refusal) = 1
 status_of (NoTeam name) = 1
 status_of (RefusedTeam name why) = 1
+status_of (TeamDiffers path team) = 1
+status_of SliceDiffers = 1
 status_of SetupOutOfMemory = 1
 status_of OutputOutOfMemory = 1
 status_of _ = 3
@@ -385,8 +440,11 @@ abbrev pub IsEarly : Fault → Type 0
 IsEarly (Refused file refusal) = Unit {0}
 IsEarly (File file why) = Unit {0}
 IsEarly (RefusedState path refusal) = Unit {0}
+IsEarly (RefusedJournal path refusal) = Unit {0}
 IsEarly (NoTeam name) = Unit {0}
 IsEarly (RefusedTeam name why) = Unit {0}
+IsEarly (TeamDiffers path team) = Unit {0}
+IsEarly SliceDiffers = Unit {0}
 IsEarly SetupOutOfMemory = Unit {0}
 IsEarly _ = ⊥
 
@@ -412,8 +470,11 @@ abbrev pub IsOfNone : Fault → Type 0
 IsOfNone (Refused file refusal) = Unit {0}
 IsOfNone (File file why) = Unit {0}
 IsOfNone (RefusedState path refusal) = Unit {0}
+IsOfNone (RefusedJournal path refusal) = Unit {0}
 IsOfNone (NoTeam name) = Unit {0}
 IsOfNone (RefusedTeam name why) = Unit {0}
+IsOfNone (TeamDiffers path team) = Unit {0}
+IsOfNone SliceDiffers = Unit {0}
 IsOfNone TooManyLines = Unit {0}
 IsOfNone OutOfMemory = Unit {0}
 IsOfNone SetupOutOfMemory = Unit {0}

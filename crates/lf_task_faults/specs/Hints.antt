@@ -6,7 +6,7 @@ use Rattle.lf_lex.specs.declared.fault.FaultNumber.TheVariants.{BadStep, NoMacro
 use Rattle.lf_lex.specs.declared.fault.LoadFault.{LoadFault}
 use Rattle.lf_lex.specs.Tokens.{Lexeme, tokens_of}
 use Rattle.lf_task_faults.specs.declared.faults.TextKind.{TextKind}
-use Rattle.lf_task_faults.specs.declared.faults.TextKind.TheVariants.{Lef, Def, State}
+use Rattle.lf_task_faults.specs.declared.faults.TextKind.TheVariants.{Lef, Def, State, Journal}
 use Rattle.lf_task_faults.specs.declared.hints.Compression.{Compression}
 use Rattle.lf_task_faults.specs.declared.hints.Compression.TheVariants.{Gzip, Bzip2, Xz, Zstd, Zip}
 use Rattle.lf_task_faults.specs.declared.hints.Remark.{Remark}
@@ -38,6 +38,7 @@ abbrev pub is_of_other_kind : TextKind → List ℕ → Bool
 is_of_other_kind Lef text = has_word text (codes "DESIGN")
 is_of_other_kind Def text = has_word text (codes "MACRO") || has_word text (codes "LIBRARY")
 is_of_other_kind State text = false
+is_of_other_kind Journal text = false
 
 -- What a text may be instead, given its compression, and whether it is of the other kind.
 abbrev pub hint_by : Option Compression → Bool → Option Hint

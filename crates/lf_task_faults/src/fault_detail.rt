@@ -5,15 +5,18 @@ ghost use Rattle.std.specs.Io.KnownBytes.{Appends};
 ghost use Rattle.std.specs.Char.{digit_char};
 ghost use Rattle.lf_task_faults.specs.Faults.{beside_words, bytes_words, complaint_line, complaint_words, compressed_words, earlier_words, fence_words, file_words, first_words};
 ghost use Rattle.lf_task_faults.specs.Faults.{hint_words, is_memory, conflict_words, number_words, output_kind_words, output_words, overlapped_fence_words, port_text, reason_words, refused_words, remark_words, text_refusal_words};
-ghost use Rattle.lf_task_faults.specs.Faults.{second_line, shown_bytes, shown_byte, shown_line, fence_line_words, state_line, subject_words, team_complaint, team_words};
+ghost use Rattle.lf_task_faults.specs.Faults.{second_line, shown_bytes, shown_byte, shown_line, fence_line_words, journal_line, state_line, state_team_words, subject_words, team_complaint, team_words};
 ghost use Rattle.lf_task_faults.specs.Faults.{claiming_fences_words, unbound_words, unpack_words, unreadable_words, unwritable_words};
 
-use crate::faults::{BindFailure, Fault, OutputKind, TeamRefusal, TextFile, TextKind};
+use crate::faults::{
+    BindFailure, Fault, OutputKind, TeamRefusal, TextFile, TextKind, put_byte_number,
+};
 use crate::hints::{Compression, Hint, Remark};
 use crate::read_failure::ReadFailureKind;
 use crate::text_refusal::{FenceLine, StateRefusal, TextRefusal};
 use itoa::Buffer;
 use lf_io::{DeviceFault, Sink, WriteFailureKind, send};
+use lf_journal_text::Refusal;
 use lf_lex::FaultNumber;
 
 /// Returns the hex digit of a number below 16.
@@ -66,6 +69,7 @@ fn put_text_file<W: Sink>(sink: &mut W, file: &TextFile<'_>) -> Result<(), Devic
         TextKind::Lef => send(sink, b"LEF file ")?,
         TextKind::Def => send(sink, b"DEF file ")?,
         TextKind::State => send(sink, b"state file ")?,
+        TextKind::Journal => send(sink, b"journal file ")?,
     }
     put_shown(sink, file.path.as_bytes())
 }
@@ -237,6 +241,7 @@ fn hint_words(kind: TextKind, hint: Option<Hint>) -> &'static [u8]
         (Some(Hint::OtherKind), TextKind::Lef) => b" (read as LEF: is the DEF text first?)",
         (Some(Hint::OtherKind), TextKind::Def) => b" (read as DEF: is the DEF text first?)",
         (Some(Hint::OtherKind), TextKind::State) => b"",
+        (Some(Hint::OtherKind), TextKind::Journal) => b"",
     }
 }
 
@@ -339,6 +344,7 @@ fn output_kind_words(kind: OutputKind) -> &'static [u8]
         OutputKind::Save => b"state file ",
         OutputKind::Lines => b"lines file ",
         OutputKind::Working => b"working export file ",
+        OutputKind::Slice => b"slice file ",
     }
 }
 
@@ -383,6 +389,24 @@ fn put_no_state<W: Sink>(
     send(sink, b"\n")
 }
 
+/// Writes where a journal is refused: the number of the byte.
+fn put_no_journal<W: Sink>(sink: &mut W, path: &str, refusal: &Refusal) -> Result<(), DeviceFault>
+    ensures ok { OnOk result
+        (Appends (W.contents sink.old) (W.contents sink.new) (journal_line path.now refusal.now)) }
+    ensures failed { OnErr result (W.has_failed sink.new ≡ true) }
+    ensures held { W.holds sink.new ≡ W.holds sink.old }
+{
+    let file = TextFile {
+        kind: TextKind::Journal,
+        path,
+    };
+    send(sink, b"lefence: ")?;
+    put_text_file(sink, &file)?;
+    send(sink, b":")?;
+    put_byte_number(sink, refusal.at)?;
+    send(sink, b"\n")
+}
+
 /// Writes a port of this machine.
 fn put_port<W: Sink>(sink: &mut W, port: u16) -> Result<(), DeviceFault>
     ensures ok { OnOk result (Appends (W.contents sink.old) (W.contents sink.new) (port_text port)) }
@@ -392,6 +416,22 @@ fn put_port<W: Sink>(sink: &mut W, port: u16) -> Result<(), DeviceFault>
     send(sink, b"port ")?;
     send(sink, Buffer::new().format(port).as_bytes())?;
     send(sink, b" of 127.0.0.1")
+}
+
+/// Writes a state file, and a team of it.
+fn put_state_team<W: Sink>(sink: &mut W, path: &str, team: &[u8]) -> Result<(), DeviceFault>
+    ensures ok { OnOk result
+        (Appends (W.contents sink.old) (W.contents sink.new) (state_team_words path.now team.now)) }
+    ensures failed { OnErr result (W.has_failed sink.new ≡ true) }
+    ensures held { W.holds sink.new ≡ W.holds sink.old }
+{
+    let file = TextFile {
+        kind: TextKind::State,
+        path,
+    };
+    put_text_file(sink, &file)?;
+    send(sink, b": team ")?;
+    put_shown(sink, team)
 }
 
 /// Writes the file, path, port or team at fault.
@@ -405,6 +445,8 @@ fn put_subject<W: Sink>(sink: &mut W, fault: &Fault<'_>) -> Result<(), DeviceFau
         Fault::NotWritten(kind, path, _) => put_output(sink, *kind, path),
         Fault::NoTeam(name) => put_team(sink, name.as_bytes()),
         Fault::RefusedTeam(name, _) => put_team(sink, name.as_slice()),
+        Fault::TeamDiffers(path, team) => put_state_team(sink, path, team.as_slice()),
+        Fault::SliceDiffers => send(sink, b"the slice"),
         Fault::Bind(port, _) => put_port(sink, *port),
         _ => Ok(()),
     }
@@ -430,6 +472,10 @@ fn complaint_of(fault: &Fault<'_>) -> &'static [u8]
         Fault::NotWritten(_, _, _) => b" cannot be written",
         Fault::NoTeam(_) => b" is not in the design",
         Fault::RefusedTeam(_, why) => team_complaint(*why),
+        Fault::TeamDiffers(_, _) => {
+            b" differs from that of an earlier state file, and both have changed it"
+        }
+        Fault::SliceDiffers => b" has another frame or other cells of the team than the design",
         Fault::Bind(_, _) => b" is not available",
         _ => b"",
     }
@@ -507,9 +553,12 @@ pub(crate) fn write_detail_line<W: Sink>(sink: &mut W, fault: &Fault<'_>) -> Res
         Fault::Refused { file, refusal } => put_refused(sink, file, refusal),
         Fault::File(_, _) => put_complaint(sink, fault),
         Fault::RefusedState(path, refusal) => put_no_state(sink, path, refusal),
+        Fault::RefusedJournal(path, refusal) => put_no_journal(sink, path, refusal),
         Fault::NotWritten(_, _, _) => put_complaint(sink, fault),
         Fault::NoTeam(_) => put_complaint(sink, fault),
         Fault::RefusedTeam(_, _) => put_complaint(sink, fault),
+        Fault::TeamDiffers(_, _) => put_complaint(sink, fault),
+        Fault::SliceDiffers => put_complaint(sink, fault),
         Fault::Bind(_, _) => put_complaint(sink, fault),
         _ => Ok(()),
     }

@@ -2,7 +2,8 @@
 
 ghost use Rattle.std.specs.Prelude.{◌≡◌, true, IsTrue, OnErr, OnOk, option_map};
 ghost use Rattle.std.specs.Io.KnownBytes.{Appends};
-ghost use Rattle.lf_task_faults.specs.Faults.{EndsWith, fault_line, fault_text, line_words, name_words, numbered_refusal, refusal_text, state_numbered};
+ghost use Rattle.lf_task_faults.specs.Faults.{EndsWith, byte_words, damage_numbered, journal_numbered, journal_refusal_text};
+ghost use Rattle.lf_task_faults.specs.Faults.{fault_line, fault_text, line_words, name_words, numbered_refusal, refusal_text, state_numbered};
 ghost use Rattle.lf_task_faults.specs.Faults.{state_refusal_text, status_of, fault_lines_text, team_numbered, team_refusal_text, unread_fault};
 ghost use Rattle.lf_task_faults.specs.declared.faults.Fault.TheVariants.{SetupOutOfMemory};
 
@@ -11,6 +12,7 @@ use crate::read_failure::{ReadFailure, ReadFailureKind};
 use crate::text_refusal::{StateRefusal, TextRefusal};
 use itoa::Buffer;
 use lf_io::{DeviceFault, Sink, WriteFailureKind, send};
+use lf_journal_text::{DamageKind, Refusal, RefusalKind};
 use lf_lex::FaultNumber;
 use lf_state_text::StateFaultNumber;
 use std::alloc::AllocError;
@@ -24,6 +26,8 @@ pub enum TextKind {
     Def,
     /// The text of a saved state.
     State,
+    /// A journal.
+    Journal,
 }
 
 /// A file of the command line that is read.
@@ -45,6 +49,8 @@ pub enum OutputKind {
     Lines,
     /// The text with the working places.
     Working,
+    /// The slice of a team.
+    Slice,
 }
 
 /// Why the program cannot listen on a port, if the system reports it.
@@ -82,10 +88,17 @@ pub enum Fault<'a> {
     File(TextFile<'a>, ReadFailureKind),
     /// The text of the state file of this path was refused: it has no state of the design.
     RefusedState(&'a str, StateRefusal),
+    /// The journal of this path was refused.
+    RefusedJournal(&'a str, Refusal),
     /// No team of the design has this name.
     NoTeam(&'a str),
     /// The floor refused a command without which the team of this name cannot be repaired.
     RefusedTeam(Vec<u8>, TeamRefusal),
+    /// The state file of this path has another state of the team with this name than an earlier
+    /// state file, and both have changed it.
+    TeamDiffers(&'a str, Vec<u8>),
+    /// The text cut for a slice is not one of the design and the team.
+    SliceDiffers,
     /// The reader of lines failed, or the limit on reads was reached.
     ReadFault,
     /// A reply could not be written.
@@ -172,6 +185,33 @@ fn state_numbered(number: StateFaultNumber) -> &'static [u8]
     }
 }
 
+/// Returns the number and the name of the damage of a journal.
+fn damage_numbered(kind: DamageKind) -> &'static [u8]
+    ensures { result.now ≡ damage_numbered kind }
+{
+    match kind {
+        DamageKind::OtherVersion => b"25 OtherVersion",
+        DamageKind::BadGate => b"28 BadGate",
+        DamageKind::BadLength => b"29 BadLength",
+        DamageKind::BadTime => b"30 BadTime",
+        DamageKind::BadSum => b"31 BadSum",
+        DamageKind::BadRecord => b"32 BadRecord",
+    }
+}
+
+/// Returns the number and the name of a refusal of a journal.
+fn journal_numbered(kind: RefusalKind) -> &'static [u8]
+    ensures { result.now ≡ journal_numbered kind }
+{
+    match kind {
+        RefusalKind::Damaged(kind) => damage_numbered(kind),
+        RefusalKind::OtherTexts => b"36 OtherTexts",
+        RefusalKind::OtherSessions => b"37 OtherSessions",
+        RefusalKind::OtherState => b"38 OtherState",
+        RefusalKind::OtherReply => b"39 OtherReply",
+    }
+}
+
 /// Writes the line number of a refusal, if it has one.
 fn put_line<W: Sink>(sink: &mut W, line: Option<usize>) -> Result<(), DeviceFault>
     ensures ok { OnOk result (Appends (W.contents sink.old) (W.contents sink.new) (line_words line)) }
@@ -183,6 +223,16 @@ fn put_line<W: Sink>(sink: &mut W, line: Option<usize>) -> Result<(), DeviceFaul
     };
     send(sink, b" line ")?;
     send(sink, Buffer::new().format(line).as_bytes())
+}
+
+/// Writes the number of a byte.
+pub(crate) fn put_byte_number<W: Sink>(sink: &mut W, at: usize) -> Result<(), DeviceFault>
+    ensures ok { OnOk result (Appends (W.contents sink.old) (W.contents sink.new) (byte_words at)) }
+    ensures failed { OnErr result (W.has_failed sink.new ≡ true) }
+    ensures held { W.holds sink.new ≡ W.holds sink.old }
+{
+    send(sink, b" byte ")?;
+    send(sink, Buffer::new().format(at).as_bytes())
 }
 
 /// Writes the name of a refusal, if it has one.
@@ -242,6 +292,17 @@ fn put_team_refusal<W: Sink>(sink: &mut W, name: &[u8], why: TeamRefusal) -> Res
     send(sink, name)
 }
 
+/// Writes the text of a refusal of a journal.
+fn put_journal_refusal<W: Sink>(sink: &mut W, refusal: &Refusal) -> Result<(), DeviceFault>
+    ensures ok { OnOk result
+        (Appends (W.contents sink.old) (W.contents sink.new) (journal_refusal_text refusal.now)) }
+    ensures failed { OnErr result (W.has_failed sink.new ≡ true) }
+    ensures held { W.holds sink.new ≡ W.holds sink.old }
+{
+    send(sink, journal_numbered(refusal.kind))?;
+    put_byte_number(sink, refusal.at)
+}
+
 /// Writes the text of a fault.
 fn put_fault<W: Sink>(sink: &mut W, fault: &Fault<'_>) -> Result<(), DeviceFault>
     ensures ok { OnOk result (Appends (W.contents sink.old) (W.contents sink.new) (fault_text fault.now)) }
@@ -252,8 +313,11 @@ fn put_fault<W: Sink>(sink: &mut W, fault: &Fault<'_>) -> Result<(), DeviceFault
         Fault::Refused { refusal, .. } => put_refusal(sink, refusal),
         Fault::File(_, _) => send(sink, b"File"),
         Fault::RefusedState(_, refusal) => put_state_refusal(sink, refusal),
+        Fault::RefusedJournal(_, refusal) => put_journal_refusal(sink, refusal),
         Fault::NoTeam(_) => send(sink, b"NoTeam"),
         Fault::RefusedTeam(name, why) => put_team_refusal(sink, name.as_slice(), *why),
+        Fault::TeamDiffers(_, _) => send(sink, b"TeamDiffers"),
+        Fault::SliceDiffers => send(sink, b"SliceDiffers"),
         Fault::ReadFault => send(sink, b"ReadFault"),
         Fault::WriteFault => send(sink, b"WriteFault"),
         Fault::TooManyLines => send(sink, b"TooManyLines"),
@@ -278,16 +342,20 @@ pub fn write_fault<W: Sink>(sink: &mut W, fault: &Fault<'_>) -> Result<(), Devic
     send(sink, b"\n")
 }
 
-/// Returns the exit status of a fault: 1 for `Refused`, `RefusedState`, `NoTeam`, `RefusedTeam`,
-/// `SetupOutOfMemory` and `OutputOutOfMemory`, otherwise 3.
+/// Returns the exit status of a fault: 1 for `Refused`, `RefusedState`, `RefusedJournal`, `NoTeam`,
+/// `RefusedTeam`, `TeamDiffers`, `SliceDiffers`, `SetupOutOfMemory` and `OutputOutOfMemory`,
+/// otherwise 3.
 pub fn status_of(fault: &Fault<'_>) -> u8
     ensures { result ≡ status_of fault.now }
 {
     match fault {
         Fault::Refused { .. } => 1,
         Fault::RefusedState(_, _) => 1,
+        Fault::RefusedJournal(_, _) => 1,
         Fault::NoTeam(_) => 1,
         Fault::RefusedTeam(_, _) => 1,
+        Fault::TeamDiffers(_, _) => 1,
+        Fault::SliceDiffers => 1,
         Fault::SetupOutOfMemory => 1,
         Fault::OutputOutOfMemory => 1,
         _ => 3,

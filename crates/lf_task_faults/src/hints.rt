@@ -114,6 +114,7 @@ fn is_of_other_kind(kind: TextKind, text: &[u8]) -> bool
         TextKind::Lef => has_word(text, b"DESIGN"),
         TextKind::Def => has_word(text, b"MACRO") || has_word(text, b"LIBRARY"),
         TextKind::State => false,
+        TextKind::Journal => false,
     }
 }
 

@@ -11,7 +11,7 @@ use Rattle.lf_floor_model.specs.Designs.{initial_floor, initial_teams}
 use Rattle.lf_floor_model.specs.States.{FloorState}
 use Rattle.lf_floor.specs.Saved.{ShareDesign, fixed_cells, fixed_part}
 use Rattle.lf_task_faults.specs.declared.faults.Fault.{Fault}
-use Rattle.lf_task_faults.specs.declared.faults.Fault.TheVariants.{Refused, File, RefusedState, NoTeam, RefusedTeam, ReadFault, WriteFault, TooManyLines, OutOfMemory, Output, Bind, Accept, NotWritten, SetupOutOfMemory, OutputOutOfMemory}
+use Rattle.lf_task_faults.specs.declared.faults.Fault.TheVariants.{Refused, File, RefusedState, RefusedJournal, NoTeam, RefusedTeam, TeamDiffers, SliceDiffers, ReadFault, WriteFault, TooManyLines, OutOfMemory, Output, Bind, Accept, NotWritten, SetupOutOfMemory, OutputOutOfMemory}
 use Rattle.lf_task_faults.specs.declared.faults.TextKind.TheVariants.{State}
 use Rattle.lf_task_designs.specs.Designs.{IsUnread, ReadsFile}
 use Rattle.lf_task_files.specs.HeldTexts.{gives_text}
@@ -121,8 +121,11 @@ held_read : (text path : List ℕ) (fault : Fault) → IsUnread (gives_text text
 held_read text path (Refused file its) is = absurd is
 held_read text path (File file why) is = absurd (none_some text is.1)
 held_read text path (RefusedState its_path its) is = absurd is
+held_read text path (RefusedJournal its_path its) is = absurd is
 held_read text path (NoTeam name) is = absurd is
 held_read text path (RefusedTeam name cause) is = absurd is
+held_read text path (TeamDiffers differing team) is = absurd is
+held_read text path SliceDiffers is = absurd is
 held_read text path ReadFault is = absurd is
 held_read text path WriteFault is = absurd is
 held_read text path TooManyLines is = absurd is

@@ -7,7 +7,7 @@ use Rattle.lf_def.specs.Document.{Document, document_of}
 use Rattle.lf_floorplan.specs.declared.limits.Limits.{Limits}
 use Rattle.lf_floorplan.specs.declared.loaded.Loaded.{Loaded}
 use Rattle.lf_task_faults.specs.declared.faults.Fault.{Fault}
-use Rattle.lf_task_faults.specs.declared.faults.Fault.TheVariants.{Refused, File, RefusedState, NoTeam, RefusedTeam, ReadFault, WriteFault, TooManyLines, OutOfMemory, Output, Bind, Accept, NotWritten, SetupOutOfMemory, OutputOutOfMemory}
+use Rattle.lf_task_faults.specs.declared.faults.Fault.TheVariants.{Refused, File, RefusedState, RefusedJournal, NoTeam, RefusedTeam, TeamDiffers, SliceDiffers, ReadFault, WriteFault, TooManyLines, OutOfMemory, Output, Bind, Accept, NotWritten, SetupOutOfMemory, OutputOutOfMemory}
 use Rattle.lf_task_faults.specs.declared.faults.TextKind.{TextKind}
 use Rattle.lf_task_faults.specs.declared.faults.TextKind.TheVariants.{Lef, Def, State}
 use Rattle.lf_task_designs.specs.Designs.{RefusalCause, ReadsFile, IsDefRefusal, IsDesignFault, IsDesignOf, IsFileFault, IsLefRefusal, IsLibraryFault, IsLibraryOf}
@@ -74,9 +74,15 @@ early_blames kept reader writer export service sound (File file why) keeps sound
     record { early = λ _. keeps; reading = λ same. absurd (subst IsEarly same tt); writing = λ of. absurd of; exporting = λ of. absurd of; serving = λ of. absurd of; sparing = λ _. sounds }
 early_blames kept reader writer export service sound (RefusedState path its) keeps sounds early =
     record { early = λ _. keeps; reading = λ same. absurd (subst IsEarly same tt); writing = λ of. absurd of; exporting = λ of. absurd of; serving = λ of. absurd of; sparing = λ _. sounds }
+early_blames kept reader writer export service sound (RefusedJournal path its) keeps sounds early =
+    record { early = λ _. keeps; reading = λ same. absurd (subst IsEarly same tt); writing = λ of. absurd of; exporting = λ of. absurd of; serving = λ of. absurd of; sparing = λ _. sounds }
 early_blames kept reader writer export service sound (NoTeam name) keeps sounds early =
     record { early = λ _. keeps; reading = λ same. absurd (subst IsEarly same tt); writing = λ of. absurd of; exporting = λ of. absurd of; serving = λ of. absurd of; sparing = λ _. sounds }
 early_blames kept reader writer export service sound (RefusedTeam name cause) keeps sounds early =
+    record { early = λ _. keeps; reading = λ same. absurd (subst IsEarly same tt); writing = λ of. absurd of; exporting = λ of. absurd of; serving = λ of. absurd of; sparing = λ _. sounds }
+early_blames kept reader writer export service sound (TeamDiffers differing team) keeps sounds early =
+    record { early = λ _. keeps; reading = λ same. absurd (subst IsEarly same tt); writing = λ of. absurd of; exporting = λ of. absurd of; serving = λ of. absurd of; sparing = λ _. sounds }
+early_blames kept reader writer export service sound SliceDiffers keeps sounds early =
     record { early = λ _. keeps; reading = λ same. absurd (subst IsEarly same tt); writing = λ of. absurd of; exporting = λ of. absurd of; serving = λ of. absurd of; sparing = λ _. sounds }
 early_blames kept reader writer export service sound ReadFault keeps sounds early = absurd early
 early_blames kept reader writer export service sound WriteFault keeps sounds early = absurd early
@@ -96,8 +102,11 @@ pub export_blames : (kept reader writer export service sound : Type 0) (fault : 
 export_blames kept reader writer export service sound (Refused file its) before now is fails sounds = absurd is
 export_blames kept reader writer export service sound (File file why) before now is fails sounds = absurd is
 export_blames kept reader writer export service sound (RefusedState path its) before now is fails sounds = absurd is
+export_blames kept reader writer export service sound (RefusedJournal path its) before now is fails sounds = absurd is
 export_blames kept reader writer export service sound (NoTeam name) before now is fails sounds = absurd is
 export_blames kept reader writer export service sound (RefusedTeam name cause) before now is fails sounds = absurd is
+export_blames kept reader writer export service sound (TeamDiffers differing team) before now is fails sounds = absurd is
+export_blames kept reader writer export service sound SliceDiffers before now is fails sounds = absurd is
 export_blames kept reader writer export service sound ReadFault before now is fails sounds = absurd is
 export_blames kept reader writer export service sound WriteFault before now is fails sounds = absurd is
 export_blames kept reader writer export service sound TooManyLines before now is fails sounds = absurd is
@@ -116,8 +125,11 @@ pub refused_early : (kind : TextKind) (path text : List ℕ) (why : RefusalCause
 refused_early kind path text why (Refused file its) is = tt
 refused_early kind path text why (File file cause) is = absurd is
 refused_early kind path text why (RefusedState its_path its) is = absurd is
+refused_early kind path text why (RefusedJournal its_path its) is = absurd is
 refused_early kind path text why (NoTeam name) is = absurd is
 refused_early kind path text why (RefusedTeam name cause) is = absurd is
+refused_early kind path text why (TeamDiffers differing team) is = absurd is
+refused_early kind path text why SliceDiffers is = absurd is
 refused_early kind path text why ReadFault is = absurd is
 refused_early kind path text why WriteFault is = absurd is
 refused_early kind path text why TooManyLines is = absurd is
@@ -134,8 +146,11 @@ pub unread_early : (gives : ReadsFile) (kind : TextKind) (path : List ℕ) (faul
 unread_early gives kind path (Refused file its) is = absurd is
 unread_early gives kind path (File file why) is = tt
 unread_early gives kind path (RefusedState its_path its) is = absurd is
+unread_early gives kind path (RefusedJournal its_path its) is = absurd is
 unread_early gives kind path (NoTeam name) is = absurd is
 unread_early gives kind path (RefusedTeam name cause) is = absurd is
+unread_early gives kind path (TeamDiffers differing team) is = absurd is
+unread_early gives kind path SliceDiffers is = absurd is
 unread_early gives kind path ReadFault is = absurd is
 unread_early gives kind path WriteFault is = absurd is
 unread_early gives kind path TooManyLines is = absurd is
@@ -212,8 +227,11 @@ refused_state_early : (path text : List ℕ) (why : StateFault) (fault : Fault) 
 refused_state_early path text why (Refused file its) is = absurd is
 refused_state_early path text why (File file cause) is = absurd is
 refused_state_early path text why (RefusedState its_path its) is = tt
+refused_state_early path text why (RefusedJournal its_path its) is = tt
 refused_state_early path text why (NoTeam name) is = absurd is
 refused_state_early path text why (RefusedTeam name cause) is = absurd is
+refused_state_early path text why (TeamDiffers differing team) is = absurd is
+refused_state_early path text why SliceDiffers is = absurd is
 refused_state_early path text why ReadFault is = absurd is
 refused_state_early path text why WriteFault is = absurd is
 refused_state_early path text why TooManyLines is = absurd is

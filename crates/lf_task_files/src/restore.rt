@@ -61,9 +61,12 @@ fn read_rows<'a>(
     }
 }
 
-/// Reads and parses the state file of this path. Each chunk of its text is dropped as soon as it
-/// has been read.
-fn rows_of_file<'a, T: InputFiles>(
+/// Reads and parses the state file of this path, for the design of the floor. Each chunk of its text
+/// is dropped as soon as it has been read.
+///
+/// `Err` if the file cannot be read, or its text has no state of the design; or if an allocation
+/// fails.
+pub fn rows_of_file<'a, T: InputFiles>(
     alloc: Global,
     texts: &T,
     floor: &Floor<IndexSeeker>,
@@ -97,8 +100,8 @@ fn restore_file<'a, T: InputFiles>(
 }
 
 /// Makes the floor of the design with no cell placed, with an index of its rows for the search for
-/// best places.
-fn start_unplaced(alloc: Global, loaded: Loaded) -> Result<Floor<IndexSeeker>, AllocError>
+/// best places. `Err` if an allocation fails.
+pub fn start_unplaced(alloc: Global, loaded: Loaded) -> Result<Floor<IndexSeeker>, AllocError>
     ensures { IfOk result (ShareDesign (initial_floor loaded)) }
 {
     let seeker = IndexSeeker::build(alloc, &loaded.frame)?;

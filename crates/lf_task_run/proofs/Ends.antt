@@ -3,7 +3,7 @@ use Rattle.std.proofs.Common.{◌≡◌, inl, inr, ℕ, List, true, false, Optio
 use Rattle.std.specs.Prelude.{◌||◌}
 use Rattle.lf_floorplan.specs.declared.frame.Frame.{Frame}
 use Rattle.lf_task_faults.specs.declared.faults.Fault.{Fault}
-use Rattle.lf_task_faults.specs.declared.faults.Fault.TheVariants.{Refused, File, RefusedState, NoTeam, RefusedTeam, ReadFault, WriteFault, TooManyLines, OutOfMemory, Output, Bind, Accept, NotWritten, SetupOutOfMemory, OutputOutOfMemory}
+use Rattle.lf_task_faults.specs.declared.faults.Fault.TheVariants.{Refused, File, RefusedState, RefusedJournal, NoTeam, RefusedTeam, TeamDiffers, SliceDiffers, ReadFault, WriteFault, TooManyLines, OutOfMemory, Output, Bind, Accept, NotWritten, SetupOutOfMemory, OutputOutOfMemory}
 use Rattle.lf_task_faults.specs.Faults.{BlamesDevices, IsEarly, IsOfWriter}
 use Rattle.lf_task_faults.specs.declared.faults.OutputKind.{OutputKind}
 use Rattle.lf_task_files.specs.Faults.{IsOutputFault}
@@ -43,8 +43,11 @@ pub unknown_early : (f : Frame) (teams : List (List ℕ)) (fault : Fault) → Is
 unknown_early f teams (Refused file its) is = absurd is
 unknown_early f teams (File file why) is = absurd is
 unknown_early f teams (RefusedState path its) is = absurd is
+unknown_early f teams (RefusedJournal path its) is = absurd is
 unknown_early f teams (NoTeam name) is = tt
 unknown_early f teams (RefusedTeam name cause) is = absurd is
+unknown_early f teams (TeamDiffers differing team) is = absurd is
+unknown_early f teams SliceDiffers is = absurd is
 unknown_early f teams ReadFault is = absurd is
 unknown_early f teams WriteFault is = absurd is
 unknown_early f teams TooManyLines is = absurd is
