@@ -45,4 +45,5 @@ mod serving;
 
 pub use laws::served_hubs_run;
 pub use server::{Ending, Failure, Server};
+pub use saving::{put_records, time_of};
 pub use serving::serve_hub;

@@ -27,7 +27,7 @@ const MOST: usize = 99_999;
 const SEGMENT: usize = 1 << 62;
 
 /// Returns the milliseconds since 1970, or 0 if the clock cannot be read.
-fn time_of(clock: &impl Clock) -> u64
+pub fn time_of(clock: &impl Clock) -> u64
     ensures { result < 10 ^ 13 }
 {
     let Ok(now) = SystemTime::now(clock) else {
@@ -71,7 +71,7 @@ fn make_batch(alloc: Global, time: u64, records: &[u8]) -> Result<Vec<u8>, Alloc
 ///
 /// `Err(UnfitRecords)` if they are too long for a batch, or one of them has a zero byte; then nothing
 /// was written. `Err(Disk)` if the disk fails.
-fn put_records<D: Disk>(
+pub fn put_records<D: Disk>(
     alloc: Global,
     time: u64,
     journal: &mut Journal<D>,

@@ -12,4 +12,5 @@
 mod names;
 mod run;
 
+pub use names::{line_of_files, name_of_state};
 pub use run::{StartFiles, run_journal_file};

@@ -44,7 +44,7 @@ fn put_lef_names<'a, T: InputFiles>(
 }
 
 /// Returns the line of the design of these files.
-pub(crate) fn line_of_files<'a, T: InputFiles>(
+pub fn line_of_files<'a, T: InputFiles>(
     alloc: Global,
     texts: &T,
     def: &'a str,
@@ -75,7 +75,7 @@ fn state_file(path: &str) -> TextFile<'_>
 }
 
 /// Returns the name of the state of this path, or that of the empty text.
-pub(crate) fn name_of_state<'a, T: InputFiles>(
+pub fn name_of_state<'a, T: InputFiles>(
     alloc: Global,
     texts: &T,
     state: Option<&'a str>,
