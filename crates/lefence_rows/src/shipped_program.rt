@@ -161,6 +161,7 @@ pub fn replay(texts: &RowTexts<'_>, lines: &[u8]) -> Result<Shipped, AllocError>
         lefs: lef_alone(texts.alloc)?,
         state: None,
         slots: Slots::standard(),
+        journal: None,
         lines: 1_000,
         save: None,
         export: Some("row.out"),

@@ -6,7 +6,7 @@ use Rattle.lf_cli.specs.declared.parse.Task.{Task}
 use Rattle.lf_cli.specs.declared.parse.Task.TheVariants.{Demo, Replay, Serve, Check, Describe, Improve, Repair, Wirelength}
 use Rattle.lf_cli.specs.Command.{Job, ReadsNone, RepairPaths, repair_paths, as_job, check, demo, describe, improve, repair, replay, serve, wirelength}
 use Rattle.lf_task_faults.specs.declared.faults.Fault.{Fault}
-use Rattle.lf_task_faults.specs.declared.faults.Fault.TheVariants.{Refused, File, RefusedState, RefusedJournal, NoTeam, RefusedTeam, ReadFault, WriteFault, TooManyLines, OutOfMemory, Output, Bind, Accept, NotWritten, SetupOutOfMemory, OutputOutOfMemory}
+use Rattle.lf_task_faults.specs.declared.faults.Fault.TheVariants.{Refused, File, RefusedState, RefusedJournal, NoTeam, RefusedTeam, TeamDiffers, SliceDiffers, ReadFault, WriteFault, TooManyLines, OutOfMemory, Output, Bind, Accept, NotWritten, SetupOutOfMemory, OutputOutOfMemory}
 use Rattle.lf_task_designs.specs.Designs.{ReadsFile}
 use Rattle.lf_task_faults.specs.Faults.{status_of}
 use Rattle.lf_app.specs.Exits.{IsJobOutcome}
@@ -31,6 +31,8 @@ failing (RefusedState path refusal) status is = inl is
 failing (RefusedJournal path refusal) status is = inl is
 failing (NoTeam name) status is = inl is
 failing (RefusedTeam name cause) status is = inl is
+failing (TeamDiffers differing team) status is = inl is
+failing SliceDiffers status is = inl is
 failing ReadFault status is = inr is
 failing WriteFault status is = inr is
 failing TooManyLines status is = inr is
@@ -52,7 +54,7 @@ not_both status (inr is) (inr fails) = omega (arith, is, fails)
 -- The status of the outcome of a job is that of a task that succeeded.
 pub succeeds : (gives : ReadsFile) (job : Job) (io : Streams) (status : ℕ) → IsJobOutcome gives job io status → IsDone status
 succeeds gives demo io status (limits, slots, is) = inl is.3
-succeeds gives (replay def lefs state number lines save export) io status (limits, slots, is) = inl is.1
+succeeds gives (replay def lefs state number journal lines save export) io status (limits, slots, is) = inl is.1
 succeeds gives (serve def lefs state number port connections save export) io status (limits, slots, is) = inl is.1
 succeeds gives (check def lefs state number committed) io status (limits, slots, is) = is.2.done
 succeeds gives (describe def lefs state number) io status (limits, slots, is) = is.shown.2.done
@@ -67,7 +69,7 @@ ends_with_status gives job io given status same is = subst (λ (n : ℕ). IsJobO
 -- Only a check, a description, a repair or an improvement has status 4.
 pub checked : (gives : ReadsFile) (task : Task) (io : Streams) (status : ℕ) → IsJobOutcome gives (as_job task) io status → status ≡ 4 → ReadsNone task
 checked gives Demo io status (limits, slots, is) four = let zero : status ≡ 0 = is.3 in absurd (omega (arith, zero, four))
-checked gives (Replay def lefs state number lines save export) io status (limits, slots, is) four =
+checked gives (Replay def lefs state number journal lines save export) io status (limits, slots, is) four =
     let zero : status ≡ 0 = is.1 in absurd (omega (arith, zero, four))
 checked gives (Serve def lefs state number port connections save export) io status (limits, slots, is) four =
     let zero : status ≡ 0 = is.1 in absurd (omega (arith, zero, four))

@@ -33,11 +33,11 @@ IsOutcomeWithin limits gives demo io status =
     × ((floor : FloorState)
     × AnswersInput default_most_lines (initial_floor loaded) floor io.input io.left io.before io.after)
     × (status ≡ 0)
-IsOutcomeWithin limits gives (replay def lefs state slots lines save export) io status =
-    IsServedDesign limits gives def lefs state save export
+IsOutcomeWithin limits gives (replay def lefs state slots journal lines save export) io status =
+    IsServedDesign limits gives def lefs state journal save export
     (λ begin floor io. AnswersInput lines begin floor io.input io.left io.before io.after) io × (status ≡ 0)
 IsOutcomeWithin limits gives (serve def lefs state slots port connections save export) io status =
-    IsServedDesign limits gives def lefs state save export
+    IsServedDesign limits gives def lefs state None save export
     (λ begin floor io. IsOffered begin floor connections io.before io.after io.old_accepted io.new_accepted) io
     × (status ≡ 0)
 IsOutcomeWithin limits gives (check def lefs state slots committed) io status =
@@ -69,12 +69,12 @@ IsJobFaultWithin limits gives demo fault io =
     IsJobStop (IsTextFault limits DEMO_DEF.now DEMO_LEF.now) (IsTextDesign limits DEMO_DEF.now DEMO_LEF.now)
     (λ loaded fault io. IsLinesFault default_most_lines
     (initial_floor loaded) fault io.input io.left io.before io.after) fault io
-IsJobFaultWithin limits gives (replay def lefs state slots lines save export) fault io =
-    IsUndone limits gives def lefs state save export
+IsJobFaultWithin limits gives (replay def lefs state slots journal lines save export) fault io =
+    IsUndone limits gives def lefs state journal save export
     (λ begin fault io. EndsWithFault lines begin fault io.input io.left io.before io.after)
     (λ begin floor io. AnswersInput lines begin floor io.input io.left io.before io.after) fault io
 IsJobFaultWithin limits gives (serve def lefs state slots port connections save export) fault io =
-    IsUndone limits gives def lefs state save export
+    IsUndone limits gives def lefs state None save export
     (λ begin fault io. IsServiceFault port connections begin fault io.before io.after io.old_accepted io.new_accepted)
     (λ begin floor io. IsOffered begin floor connections io.before io.after io.old_accepted io.new_accepted) fault io
 IsJobFaultWithin limits gives (check def lefs state slots committed) fault io =

@@ -8,8 +8,9 @@ use Rattle.lf_task_files.specs.Inputs.{path_of}
 use Rattle.lf_task_run.specs.Tasks.{Request}
 use Rattle.lf_task_serve.specs.Lines.{default_most_lines}
 
--- What a job requests: the paths of the files that it reads, the number of session slots of each team, the paths of the
--- files that it writes, whether it reads standard input, the most lines that it answers, and whether it shows progress.
+-- What a job requests: the paths of the files of its design and of its state, the number of session slots of each team,
+-- the paths of the files that it writes, whether it reads standard input, the most lines that it answers, and whether
+-- it shows progress.
 pub record Requests : Type 0 where
   pub def : List ℕ
   pub lefs : List (List ℕ)
@@ -43,7 +44,7 @@ requests_of demo = record (on_files [] [] None 8 (save_and_export None None)) { 
 requests_of (check def lefs state slots committed) = on_files def lefs state slots (save_and_export None None)
 requests_of (describe def lefs state slots) = on_files def lefs state slots (save_and_export None None)
 requests_of (wirelength def lefs state slots) = on_files def lefs state slots (save_and_export None None)
-requests_of (replay def lefs state slots lines save export) =
+requests_of (replay def lefs state slots journal lines save export) =
     record (on_files def lefs state slots (save_and_export save export)) { reads_input = true; lines = lines }
 requests_of (serve def lefs state slots port connections save export) =
     on_files def lefs state slots (save_and_export save export)
@@ -73,7 +74,7 @@ pub record AreOutputsAt (save export : Option (List ℕ)) (outputs : OutputPaths
 
 -- The outputs are the files that a job writes after its lines.
 abbrev pub AreOutputsOf : Job → OutputPaths → Type 0
-AreOutputsOf (replay def lefs state slots lines save export) outputs = AreOutputsAt save export outputs
+AreOutputsOf (replay def lefs state slots journal lines save export) outputs = AreOutputsAt save export outputs
 AreOutputsOf (serve def lefs state slots port connections save export) outputs = AreOutputsAt save export outputs
 AreOutputsOf job outputs = Unit {0}
 

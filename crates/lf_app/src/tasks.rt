@@ -224,9 +224,9 @@ fn outcome_within<'a, D: Devices>(
             &mut environment.reader,
             &mut environment.writer,
         ),
-        Task::Replay { lines, .. } => {
+        Task::Replay { journal, lines, .. } => {
             let lines = LineSource::Reader { max_lines: *lines };
-            serve_files(alloc, environment, inputs, lines, outputs_of(task))
+            serve_files(alloc, environment, inputs, *journal, lines, outputs_of(task))
         }
         Task::Serve {
             port,
@@ -237,7 +237,7 @@ fn outcome_within<'a, D: Devices>(
                 port: *port,
                 connections: *connections,
             };
-            serve_files(alloc, environment, inputs, lines, outputs_of(task))
+            serve_files(alloc, environment, inputs, None, lines, outputs_of(task))
         }
         Task::Check { committed, .. } => {
             check(

@@ -98,7 +98,7 @@ line_of Check = design_line (subcommand_word Check)
 line_of Describe = design_line (subcommand_word Describe) (text_rule (codes "state") ∷ slots_rule ∷ [])
 line_of Wirelength = design_line (subcommand_word Wirelength) (text_rule (codes "state") ∷ slots_rule ∷ [])
 line_of Replay = design_line (subcommand_word Replay)
-    (number_rule (codes "lines") 4294967295
+    (number_rule (codes "lines") 4294967295 ∷ text_rule (codes "journal")
     ∷ text_rule (codes "state") ∷ slots_rule ∷ text_rule (codes "save") ∷ text_rule (codes "export") ∷ [])
 line_of Serve = design_line (subcommand_word Serve)
     (needed (number_rule (codes "port") 65535) ∷ needed (number_rule (codes "connections") 1000000)
@@ -141,8 +141,9 @@ pub data Job : Type 0 where
   check : Text → List Text → Option Text → ℕ → Bool → Job
   describe : Text → List Text → Option Text → ℕ → Job
   wirelength : Text → List Text → Option Text → ℕ → Job
-  -- The most lines that are answered; the paths of the state and of the DEF file to write.
-  replay : Text → List Text → Option Text → ℕ → ℕ → Option Text → Option Text → Job
+  -- The path of the journal that is run first; the most lines that are answered; the paths of the state and of the DEF
+  -- file to write.
+  replay : Text → List Text → Option Text → ℕ → Option Text → ℕ → Option Text → Option Text → Job
   -- The port and the number of connections; the paths of the state and of the DEF file to write.
   serve : Text → List Text → Option Text → ℕ → ℕ → ℕ → Option Text → Option Text → Job
   -- The teams, or all if the list is empty; how places are searched for; the paths of the files to
@@ -172,6 +173,12 @@ abbrev pub clash_among : Text → List Text → Option Text → Option Text → 
 clash_among def lefs state save export =
     if is_same save (Some def) || is_among save lefs then Some (codes "save")
     else if is_same export state || (is_same export save || is_among export lefs) then Some (codes "export") else None
+
+-- The same of a replay, whose files may not replace its journal.
+abbrev pub replay_clash : Text → List Text → Option Text → Option Text → Option Text → Option Text → Option Text
+replay_clash def lefs state journal save export =
+    if is_same save journal then Some (codes "save")
+    else if is_same export journal then Some (codes "export") else clash_among def lefs state save export
 
 -- True if the command lines of a repair would replace a file that it reads.
 abbrev pub lines_clash : Text → List Text → Option Text → RepairPaths → Bool
@@ -210,7 +217,7 @@ repair_clash def lefs state files =
 
 -- The option of a job whose file would replace another of its files.
 abbrev pub clash_of : Job → Option Text
-clash_of (replay def lefs state slots lines save export) = clash_among def lefs state save export
+clash_of (replay def lefs state slots journal lines save export) = replay_clash def lefs state journal save export
 clash_of (serve def lefs state slots port connections save export) = clash_among def lefs state save export
 clash_of (repair def lefs state slots teams options files) = repair_clash def lefs state files
 clash_of (improve def lefs slots teams within options files) = repair_clash def lefs None files
@@ -352,8 +359,8 @@ job_on Wirelength def lefs rows =
     option_map (λ slots. wirelength def lefs (first_of (codes "state") rows) slots) (slots_among rows)
 job_on Replay def lefs rows =
     option_and_then (λ lines. option_map
-    (λ slots. replay def lefs (first_of (codes "state") rows) slots lines (first_of (codes "save") rows)
-    (first_of (codes "export") rows))
+    (λ slots. replay def lefs (first_of (codes "state") rows) slots (first_of (codes "journal") rows) lines
+    (first_of (codes "save") rows) (first_of (codes "export") rows))
     (slots_among rows))
     (most_lines (first_of (codes "lines") rows))
 job_on Serve def lefs rows =
@@ -433,9 +440,10 @@ as_job (task.Describe def lefs state slots) =
     describe def.now (map (λ lef. lef.now) lefs) (option_map (λ path. path.now) state) slots.number
 as_job (task.Wirelength def lefs state slots) =
     wirelength def.now (map (λ lef. lef.now) lefs) (option_map (λ path. path.now) state) slots.number
-as_job (task.Replay def lefs state slots lines save export) =
+as_job (task.Replay def lefs state slots journal lines save export) =
     replay def.now (map (λ lef. lef.now) lefs) (option_map (λ path. path.now) state) slots.number
-    lines (option_map (λ path. path.now) save) (option_map (λ path. path.now) export)
+    (option_map (λ path. path.now) journal) lines
+    (option_map (λ path. path.now) save) (option_map (λ path. path.now) export)
 as_job (task.Serve def lefs state slots port connections save export) =
     serve def.now (map (λ lef. lef.now) lefs) (option_map (λ path. path.now) state) slots.number
     port connections (option_map (λ path. path.now) save) (option_map (λ path. path.now) export)
@@ -449,6 +457,6 @@ as_job (task.Improve def lefs slots teams within options files) =
 -- Holds if the task reads no line.
 abbrev pub ReadsNone : Task → Type 0
 ReadsNone task.Demo = ⊥
-ReadsNone (task.Replay def lefs state slots lines save export) = ⊥
+ReadsNone (task.Replay def lefs state slots journal lines save export) = ⊥
 ReadsNone (task.Serve def lefs state slots port connections save export) = ⊥
 ReadsNone _ = Unit {0}

@@ -8,7 +8,7 @@ ghost use Rattle.clap.specs.Walk.{all_of, first_of, rows_of};
 ghost use Rattle.lf_cli.specs.declared.subcommand.Subcommand.TheVariants.{Check, Describe, Improve, Repair, Replay, Serve, Wirelength};
 ghost use Rattle.lf_cli.specs.declared.parse.UsageFault.TheVariants.{Usage};
 ghost use Rattle.lf_cli.specs.Command.{as_job, clash_among, clash_of, density_requested, improve_options_among, is_among, is_demo, is_same, is_set, job_requested, job_by, job_found, job_of, job_on};
-ghost use Rattle.lf_cli.specs.Command.{export_clash, improvement_paths_among, legal_cells, lines_clash, most_lines, moves_requested, number_in, repair_clash, repair_options_among, repair_paths, repair_paths_among};
+ghost use Rattle.lf_cli.specs.Command.{export_clash, improvement_paths_among, legal_cells, lines_clash, most_lines, moves_requested, number_in, repair_clash, repair_options_among, repair_paths, repair_paths_among, replay_clash};
 ghost use Rattle.lf_cli.specs.Command.{rounds_requested, save_clash, service_of, slots_among, tries_requested, unless_clash, values_of, within_requested, working_clash, working_repeats};
 
 use crate::session_slots::{MOST_SLOTS, Slots};
@@ -131,6 +131,8 @@ pub enum Task<'a> {
         /// The path of the saved state from which to continue, if any.
         state: Option<&'a str>,
         slots: Slots,
+        /// The path of the journal that is run first, if any.
+        journal: Option<&'a str>,
         /// The most lines that are answered: from 1 to 4,294,967,295; 1,000,000 by default.
         lines: u32,
         /// The path to which the final state is saved, if any.
@@ -381,6 +383,7 @@ fn replay_on<'a>(
         lefs,
         state: value_of(matches, "state"),
         slots,
+        journal: value_of(matches, "journal"),
         lines,
         save: value_of(matches, "save"),
         export: value_of(matches, "export"),
@@ -716,6 +719,28 @@ fn clash_among(
     None
 }
 
+/// Returns the option whose file would replace another file of a replay, or `None`.
+fn replay_clash(
+    def: &str,
+    lefs: &[&str],
+    state: Option<&str>,
+    journal: Option<&str>,
+    save: Option<&str>,
+    export: Option<&str>,
+) -> Option<&'static str>
+    ensures { option_map (λ word. word.now) result ≡ replay_clash def.now (map (λ lef. lef.now) lefs.now)
+        (option_map (λ path. path.now) state.entry) (option_map (λ path. path.now) journal.entry)
+        (option_map (λ path. path.now) save.entry) (option_map (λ path. path.now) export.entry) }
+{
+    if is_same(save, journal) {
+        return Some("save");
+    }
+    if is_same(export, journal) {
+        return Some("export");
+    }
+    clash_among(def, lefs, state, save, export)
+}
+
 /// Returns whether the command lines of a repair would replace a file that it reads.
 fn lines_clash(def: &str, lefs: &[&str], state: Option<&str>, files: RepairFiles<'_>) -> bool
     ensures { result ≡ lines_clash def.now (map (λ lef. lef.now) lefs.now)
@@ -812,10 +837,11 @@ fn clash_of(task: &Task<'_>) -> Option<&'static str>
             def,
             lefs,
             state,
+            journal,
             save,
             export,
             ..
-        } => clash_among(*def, lefs.as_slice(), *state, *save, *export),
+        } => replay_clash(*def, lefs.as_slice(), *state, *journal, *save, *export),
         Task::Serve {
             def,
             lefs,

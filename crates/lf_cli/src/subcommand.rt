@@ -219,7 +219,9 @@ fn replay<'a>(alloc: Global) -> Result<Command<'a>, AllocError>
     ensures local { IfOk result (λ made. (out-Command made).has_globals ≡ false) }
 {
     let most = u32::MAX as u64;
-    let command = over_design(alloc, "replay")?.arg(number(alloc, "lines", most))?;
+    let command = over_design(alloc, "replay")?
+        .arg(number(alloc, "lines", most))?
+        .arg(text(alloc, "journal"))?;
     with_outputs(alloc, command)
 }
 

@@ -1,19 +1,10 @@
 -- The names of the texts of files.
-use Rattle.std.specs.Prelude.{◌≡◌, ◌⊎◌, ℕ, List, [], ◌∷◌, ◌++◌, map, Option, Some, None, option_map, Vec}
-use Rattle.std.specs.Borrow.{Bor}
+use Rattle.std.specs.Prelude.{◌≡◌, ◌⊎◌, ℕ, List, [], ◌∷◌, ◌++◌, Option, Some, None}
 use Rattle.lf_journal_text.specs.Records.{design_line, state_name}
 use Rattle.lf_task_faults.specs.declared.faults.Fault.{Fault}
 use Rattle.lf_task_faults.specs.declared.faults.Fault.TheVariants.{SetupOutOfMemory}
 use Rattle.lf_task_faults.specs.declared.faults.TextKind.TheVariants.{Lef, Def, State}
 use Rattle.lf_task_designs.specs.Designs.{ReadsFile, IsUnread}
-
--- ---- paths and names
-
-abbrev pub path_of : Option (Bor (List ℕ)) → Option (List ℕ)
-path_of path = option_map (λ path. path.now) path
-
-abbrev pub paths_of : List (Bor (List ℕ)) → List (List ℕ)
-paths_of paths = map (λ path. path.now) paths
 
 -- The file of the path is read, and its text has this name.
 abbrev pub HasName : ReadsFile → List ℕ → List ℕ → Type 0
@@ -25,13 +16,13 @@ AreNames gives [] [] = Unit {0}
 AreNames gives (path ∷ paths) (name ∷ names) = HasName gives path name × AreNames gives paths names
 AreNames gives _ _ = ⊥
 
--- These names were added to others.
+-- The names of the texts of the files were added to others.
 pub record AreAdded (gives : ReadsFile) (paths old new : List (List ℕ)) : Type 0 where
   pub names : List (List ℕ)
   pub are : AreNames gives paths names
   pub all : new ≡ old ++ names
 
--- The line of the design of these files.
+-- The line of the design of these files, with so many session slots.
 pub record IsLineOf (gives : ReadsFile) (def : List ℕ) (lefs : List (List ℕ)) (sessions : ℕ) (line : List ℕ) : Type 0 where
   pub names : List (List ℕ)
   pub are : AreNames gives (def ∷ lefs) names
@@ -44,16 +35,16 @@ IsStateNamed gives (Some path) name = HasName gives path name
 
 -- ---- why a name is not known
 
--- One of the LEF files was not read.
+-- One of the LEF files was not read, or memory did not suffice for the names.
 abbrev pub IsLefUnread : ReadsFile → List (List ℕ) → Fault → Type 0
-IsLefUnread gives [] fault = ⊥
+IsLefUnread gives [] fault = fault ≡ SetupOutOfMemory
 IsLefUnread gives (path ∷ paths) fault = IsUnread gives Lef path fault ⊎ IsLefUnread gives paths fault
 
--- One of the files of the design was not read.
+-- One of the files of the design was not read, or memory did not suffice for the names.
 abbrev pub IsLineUnread : ReadsFile → List ℕ → List (List ℕ) → Fault → Type 0
 IsLineUnread gives def lefs fault = IsUnread gives Def def fault ⊎ IsLefUnread gives lefs fault
 
--- The state was not read.
+-- The state was not read, or memory did not suffice for its name.
 abbrev pub IsStateUnread : ReadsFile → Option (List ℕ) → Fault → Type 0
 IsStateUnread gives None fault = fault ≡ SetupOutOfMemory
 IsStateUnread gives (Some path) fault = IsUnread gives State path fault

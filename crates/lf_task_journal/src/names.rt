@@ -3,7 +3,8 @@
 ghost use Rattle.std.specs.Prelude.{◌≡◌, map, IfErr, IfOk, OnOk};
 ghost use Rattle.lf_task_designs.specs.Designs.{IsUnread};
 ghost use Rattle.lf_task_faults.specs.declared.faults.TextKind.TheVariants.{State};
-ghost use Rattle.lf_task_journal.specs.Names.{AreAdded, HasName, IsLefUnread, IsLineOf, IsLineUnread, IsStateNamed, IsStateUnread, path_of, paths_of};
+ghost use Rattle.lf_task_files.specs.Inputs.{path_of};
+ghost use Rattle.lf_task_journal.specs.Names.{AreAdded, HasName, IsLefUnread, IsLineOf, IsLineUnread, IsStateNamed, IsStateUnread};
 
 use lf_journal_text::{design_line, text_name};
 use lf_task_designs::{InputFiles, def_file, lef_file, read_text};
@@ -32,13 +33,15 @@ fn put_lef_names<'a, T: InputFiles>(
     names: &mut Vec<Vec<u8>>,
 ) -> Result<(), Fault<'a>>
     ensures ok { OnOk result
-        (AreAdded (T.gives texts.now) (paths_of lefs.now) (map (λ name. name.items) names.old.items)
+        (AreAdded (T.gives texts.now) (map (λ lef. lef.now) lefs.now) (map (λ name. name.items) names.old.items)
         (map (λ name. name.items) names.new.items)) }
-    ensures err { IfErr result (IsLefUnread (T.gives texts.now) (paths_of lefs.now)) }
+    ensures err { IfErr result (IsLefUnread (T.gives texts.now) (map (λ lef. lef.now) lefs.now)) }
 {
     for lef in lefs {
         let name = name_of_file(alloc, texts, lef_file(lef))?;
-        names.push(name)?;
+        if names.push(name).is_err() {
+            return Err(Fault::SetupOutOfMemory);
+        }
     }
     Ok(())
 }
@@ -52,12 +55,14 @@ pub fn line_of_files<'a, T: InputFiles>(
     sessions: u32,
 ) -> Result<Vec<u8>, Fault<'a>>
     ensures ok { IfOk result
-        (λ line. IsLineOf (T.gives texts.now) def.now (paths_of lefs.now) sessions line.items) }
-    ensures err { IfErr result (IsLineUnread (T.gives texts.now) def.now (paths_of lefs.now)) }
+        (λ line. IsLineOf (T.gives texts.now) def.now (map (λ lef. lef.now) lefs.now) sessions line.items) }
+    ensures err { IfErr result (IsLineUnread (T.gives texts.now) def.now (map (λ lef. lef.now) lefs.now)) }
 {
     let first = name_of_file(alloc, texts, def_file(def))?;
     let mut names = Vec::new(alloc);
-    names.push(first)?;
+    if names.push(first).is_err() {
+        return Err(Fault::SetupOutOfMemory);
+    }
     put_lef_names(alloc, texts, lefs, &mut names)?;
     let line = design_line(alloc, u64::from(sessions), &names)?;
     Ok(line)

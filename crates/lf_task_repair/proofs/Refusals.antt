@@ -4,7 +4,7 @@ use Rattle.lf_cli.specs.declared.parse.RepairOptions.{RepairOptions}
 use Rattle.lf_floorplan.specs.declared.frame.Frame.{Frame}
 use Rattle.lf_floor_model.specs.States.{FloorState}
 use Rattle.lf_task_faults.specs.declared.faults.Fault.{Fault}
-use Rattle.lf_task_faults.specs.declared.faults.Fault.TheVariants.{Refused, File, RefusedState, NoTeam, RefusedTeam, ReadFault, WriteFault, TooManyLines, OutOfMemory, Output, Bind, Accept, NotWritten, SetupOutOfMemory, OutputOutOfMemory}
+use Rattle.lf_task_faults.specs.declared.faults.Fault.TheVariants.{Refused, File, RefusedState, RefusedJournal, NoTeam, RefusedTeam, TeamDiffers, SliceDiffers, ReadFault, WriteFault, TooManyLines, OutOfMemory, Output, Bind, Accept, NotWritten, SetupOutOfMemory, OutputOutOfMemory}
 use Rattle.lf_task_faults.specs.Faults.{IsEarly}
 use Rattle.lf_task_designs.specs.Designs.{ReadsFile}
 use Rattle.lf_task_files.proofs.WorkSteps.{floor_early}
@@ -22,6 +22,8 @@ refusal_early team (File file why) is = absurd is
 refusal_early team (RefusedState path its) is = absurd is
 refusal_early team (NoTeam name) is = absurd is
 refusal_early team (RefusedTeam name cause) is = tt
+refusal_early team (TeamDiffers differing its_team) is = absurd is
+refusal_early team SliceDiffers is = absurd is
 refusal_early team ReadFault is = absurd is
 refusal_early team WriteFault is = absurd is
 refusal_early team TooManyLines is = absurd is

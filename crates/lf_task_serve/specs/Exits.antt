@@ -7,7 +7,6 @@ use Rattle.lf_rules.specs.Legalizer.{Legalizer}
 use Rattle.lf_def.specs.Document.{Document}
 use Rattle.lf_io.specs.Shelf.{Put}
 use Rattle.lf_floor_model.specs.States.{FloorState}
-use Rattle.lf_floor_model.specs.Designs.{initial_floor}
 use Rattle.lf_server.specs.Connections.{Accepted, AreServed}
 use Rattle.lf_server.specs.declared.serve_loop.Ending.{Ending}
 use Rattle.lf_task_faults.specs.declared.faults.Fault.{Fault}
@@ -15,8 +14,9 @@ use Rattle.lf_task_faults.specs.declared.faults.Fault.TheVariants.{Accept, Bind,
 use Rattle.lf_task_designs.specs.Designs.{ReadsFile, IsOpened}
 use Rattle.lf_task_faults.specs.declared.faults.OutputKind.TheVariants.{Export, Save}
 use Rattle.lf_task_files.specs.Faults.{IsOutputFault}
-use Rattle.lf_task_files.specs.States.{IsOpenedFloor, IsFloorFault, IsFloorOf, IsSaved}
+use Rattle.lf_task_files.specs.States.{IsSaved}
 use Rattle.lf_task_files.specs.Exits.{IsExported}
+use Rattle.lf_task_journal.specs.Begun.{IsBeginFault, IsBeginOf, IsBegunFloor}
 use Rattle.lf_task_serve.specs.Faults.{ending_fault}
 use Rattle.lf_task_serve.specs.Lines.{IsServed, default_most_lines, reads_for}
 
@@ -81,17 +81,17 @@ pub record IsFinished (Work : FloorState → Streams → Type 0) (save export : 
   pub exports : IsExported export text document floor io.old_puts between
   pub saves : IsSaved save floor between io.new_puts
 
--- The design was opened, its floor was brought into the requested state, and this work on it
--- finished.
+-- The design was opened, its floor was brought into the requested state, the requested journal was
+-- run on it, and then this work on it finished.
 pub record IsServedDesign (limits : Limits) (gives : ReadsFile) (def : List ℕ) (lefs : List (List ℕ))
-    (state save export : Option (List ℕ))
+    (state journal save export : Option (List ℕ))
     (Work : FloorState → FloorState → Streams → Type 0) (io : Streams) : Type 0 where
   pub text : List ℕ
   pub document : Document
   pub loaded : Loaded
   pub opened : IsOpened limits gives def lefs text document loaded
   pub begin : FloorState
-  pub begins : IsOpenedFloor gives state (initial_floor loaded) begin
+  pub begins : IsBegunFloor limits gives def lefs state journal loaded begin
   pub finished : IsFinished (Work begin) save export text document io
 
 -- ---- faults
@@ -151,8 +151,8 @@ IsJobStop {A} nothing IsWorkedOn why fault io =
 -- Why a job on lines fails: it stopped, and no file is written; or everything is done except that
 -- the state is not saved.
 abbrev pub IsUndone : Limits → ReadsFile → List ℕ → List (List ℕ) → Option (List ℕ) → Option (List ℕ) → Option (List ℕ)
-    → (FloorState → Fault → Streams → Type 0) → (FloorState → FloorState → Streams → Type 0) → Fault → Streams → Type 0
-IsUndone limits gives def lefs state save export why Work fault io =
-    (IsJobStop (IsFloorFault limits gives def lefs state) (IsFloorOf limits gives def lefs state)
+    → Option (List ℕ) → (FloorState → Fault → Streams → Type 0) → (FloorState → FloorState → Streams → Type 0) → Fault → Streams → Type 0
+IsUndone limits gives def lefs state journal save export why Work fault io =
+    (IsJobStop (IsBeginFault limits gives def lefs state journal) (IsBeginOf limits gives def lefs state journal)
     (λ begin. IsServeFault save export (why begin) (Work begin)) fault io × (io.new_puts ≡ io.old_puts))
-    ⊎ (IsOutputFault Save save fault × IsServedDesign limits gives def lefs state None export Work io)
+    ⊎ (IsOutputFault Save save fault × IsServedDesign limits gives def lefs state journal None export Work io)

@@ -6,14 +6,13 @@ use Rattle.lf_floorplan.specs.declared.limits.Limits.{Limits}
 use Rattle.lf_floorplan.specs.declared.loaded.Loaded.{Loaded}
 use Rattle.lf_server.specs.declared.acceptor.ServiceConfig.{ServiceConfig}
 use Rattle.lf_floor_model.specs.States.{FloorState}
-use Rattle.lf_floor_model.specs.Designs.{initial_floor}
 use Rattle.lf_task_faults.specs.declared.faults.Fault.{Fault}
 use Rattle.lf_task_designs.specs.declared.opening.SourceText.{SourceText}
 use Rattle.lf_task_designs.specs.Designs.{AreKept, ReadsFile, IsLoadedIn}
 use Rattle.lf_task_faults.specs.Faults.{BlamesDevices}
 use Rattle.lf_task_faults.specs.declared.faults.OutputKind.TheVariants.{Save}
 use Rattle.lf_task_files.specs.Faults.{IsOutputFault}
-use Rattle.lf_task_files.specs.States.{IsOpenedFloor, IsNotOpened}
+use Rattle.lf_task_journal.specs.Begun.{IsBegunFloor, IsNotBegun}
 use Rattle.lf_task_serve.specs.declared.line_source.LineSource.{LineSource}
 use Rattle.lf_task_serve.specs.declared.line_source.LineSource.TheVariants.{Reader, Port}
 use Rattle.lf_task_serve.specs.Exits.{AnswersInput, EndsWithFault, IsFinished, IsOffered, IsServiceFault, IsServeFault, IsUntouched, Streams}
@@ -54,11 +53,11 @@ IsUnfinished save export lines begin text document fault io =
 
 -- Why the work on the design of a text is not finished: there is no floor with which to begin, and
 -- nothing is touched; or the work on its floor is not finished.
-abbrev pub IsNotServedDesign : ReadsFile → Option (List ℕ) → Option (List ℕ) → Option (List ℕ) → LineSource → Loaded
-    → List ℕ → Document → Fault → Streams → Type 0
-IsNotServedDesign gives state save export lines loaded text document fault io =
-    (IsNotOpened gives state loaded fault × IsUntouched io)
-    ⊎ ((begin : FloorState) × IsOpenedFloor gives state (initial_floor loaded) begin
+abbrev pub IsNotServedDesign : Limits → ReadsFile → List ℕ → List (List ℕ) → Option (List ℕ) → Option (List ℕ)
+    → Option (List ℕ) → Option (List ℕ) → LineSource → Loaded → List ℕ → Document → Fault → Streams → Type 0
+IsNotServedDesign limits gives def lefs state journal save export lines loaded text document fault io =
+    (IsNotBegun limits gives def lefs state journal loaded fault × IsUntouched io)
+    ⊎ ((begin : FloorState) × IsBegunFloor limits gives def lefs state journal loaded begin
     × IsUnfinished save export lines begin text document fault io)
 
 -- The reader has failed, or the limit on reads was reached. A service does not read from it.

@@ -1,8 +1,8 @@
 //! Answers lines over designs of files, from a reader or from connections, and then writes the
 //! requested files.
 //!
-//! `serve_files` opens a design, brings its floor into the state of a state file if one is given
-//! (`lf_task_files`), and answers lines or serves connections (`LineSource`). At the end it writes
+//! `serve_files` opens a design, brings its floor into the state of a state file and runs a journal on
+//! it, each if one is given (`lf_task_journal`). Then it answers lines or serves connections (`LineSource`). At the end it writes
 //! the exported text and the state, each if requested. `Environment` has all devices of a task; their
 //! types are one parameter (`Devices`).
 //! Each function returns the exit status 0, or the fault, which is not printed here.
@@ -21,7 +21,7 @@
 //!
 //! ```
 //! let lines = LineSource::Reader { max_lines: *lines };
-//! serve_files(alloc, environment, inputs, lines, outputs_of(task))
+//! serve_files(alloc, environment, inputs, *journal, lines, outputs_of(task))
 //! ```
 #![tactic(auto)]
 

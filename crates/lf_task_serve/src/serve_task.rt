@@ -9,8 +9,8 @@ ghost use Rattle.lf_floor_model.specs.Places.{AreCommittedPlaces};
 ghost use Rattle.lf_floor_model.specs.States.{FloorState};
 ghost use Rattle.lf_task_designs.specs.Designs.{AreKept};
 ghost use Rattle.lf_task_files.specs.Exits.{CanBePut};
-ghost use Rattle.lf_task_files.specs.States.{IsOpenedFloor};
 ghost use Rattle.lf_task_files.specs.Inputs.{path_of};
+ghost use Rattle.lf_task_journal.specs.Begun.{IsBegunFloor};
 ghost use Rattle.lf_task_serve.specs.Exits.{AnswersInput, IsFinished, IsLinesFault, IsUndone, IsServedDesign};
 ghost use Rattle.lf_task_serve.specs.Faults.{BlamesStreams};
 ghost use Rattle.lf_task_serve.specs.Lines.{default_most_lines};
@@ -29,8 +29,9 @@ use lf_legalize::IndexSeeker;
 use lf_task_designs::{OpenedDesign, SourceText, open_design};
 use lf_task_faults::Fault;
 use lf_task_files::{
-    DesignInput, OutputPaths, check_outputs, open_floor, start_floor, write_outputs,
+    DesignInput, OutputPaths, check_outputs, start_floor, write_outputs,
 };
+use lf_task_journal::begin_floor;
 use lf_write::kept_clauses_suffice;
 use std::alloc::Global;
 
@@ -76,12 +77,14 @@ fn serve_floor<'a, D: Devices>(
     Ok(0)
 }
 
-/// Works on the design, in the state of the file of this path if one is given.
+/// Works on the design of these files, in the state of its file and after the journal of this path, each
+/// if one is given.
 fn serve_design<'a, D: Devices>(
     alloc: Global,
     environment: &mut Environment<D>,
     design: OpenedDesign,
-    state: Option<&'a str>,
+    inputs: DesignInput<'a>,
+    journal: Option<&'a str>,
     lines: LineSource,
     outputs: OutputPaths<'a>,
 ) -> Result<u8, Fault<'a>>
@@ -92,13 +95,16 @@ fn serve_design<'a, D: Devices>(
     ensures ok { let io = ⟦<Environment<D> as Shows>⟧.io in
         (text : List ℕ) (document : Document) → AreKept design.original text document
         → IfOk result (λ status. (status ≡ 0) × ((begin : FloorState)
-        × IsOpenedFloor (D.Texts.gives environment.old.texts) (path_of state.entry) (initial_floor design.loaded) begin
+        × IsBegunFloor inputs.entry.limits (D.Texts.gives environment.old.texts) inputs.entry.def.now
+        (map (λ lef. lef.now) inputs.entry.lefs.now) (path_of inputs.entry.state) (path_of journal.entry) design.loaded
+        begin
         × IsFinished (AreAnswered lines begin) (path_of outputs.entry.save) (path_of outputs.entry.export)
         text document (streams_of (io environment.old) (io environment.new)))) }
     ensures err { let io = ⟦<Environment<D> as Shows>⟧.io in
         (text : List ℕ) (document : Document) → AreKept design.original text document
-        → IfErr result (λ fault. IsNotServedDesign (D.Texts.gives environment.old.texts) (path_of state.entry)
-        (path_of outputs.entry.save) (path_of outputs.entry.export) lines
+        → IfErr result (λ fault. IsNotServedDesign inputs.entry.limits (D.Texts.gives environment.old.texts)
+        inputs.entry.def.now (map (λ lef. lef.now) inputs.entry.lefs.now) (path_of inputs.entry.state)
+        (path_of journal.entry) (path_of outputs.entry.save) (path_of outputs.entry.export) lines
         design.loaded text document fault (streams_of (io environment.old) (io environment.new))
         × BlamesIn lines (environment.new.writer ≡ environment.old.writer) (io environment.old) (io environment.new) fault) }
     ensures leaves { let io = ⟦<Environment<D> as Shows>⟧.io in
@@ -113,7 +119,7 @@ fn serve_design<'a, D: Devices>(
     loaded_cells_are_exportable();
     places_follow_design();
     let OpenedDesign { loaded, original } = design;
-    let mut floor = open_floor(alloc, &environment.texts, loaded, state)?;
+    let mut floor = begin_floor(alloc, &environment.texts, loaded, inputs, journal)?;
     serve_floor(
         alloc,
         environment,
@@ -124,17 +130,18 @@ fn serve_design<'a, D: Devices>(
     )
 }
 
-/// Works on the design of a DEF file over LEF files, in the state of a state file if one is given.
-/// Answers its lines or serves its connections, and then writes the exported text and the state, if
-/// requested. Returns the exit status 0.
+/// Works on the design of a DEF file over LEF files, in the state of a state file and after a journal,
+/// each if one is given. Answers its lines or serves its connections, and then writes the exported text
+/// and the state, if requested. Returns the exit status 0.
 ///
 /// `Err` is the first fault, in this order: the LEF files, the DEF file, the design, the state, the
-/// paths of the requested files, the port, the lines, the exported text, the state. If the fault is
-/// not that of writing the state, no file is written.
+/// journal, the paths of the requested files, the port, the lines, the exported text, the state. If the
+/// fault is not that of writing the state, no file is written.
 pub fn serve_files<'a, D: Devices>(
     alloc: Global,
     environment: &mut Environment<D>,
     inputs: DesignInput<'a>,
+    journal: Option<&'a str>,
     lines: LineSource,
     outputs: OutputPaths<'a>,
 ) -> Result<u8, Fault<'a>>
@@ -143,12 +150,14 @@ pub fn serve_files<'a, D: Devices>(
     ensures ok { let io = ⟦<Environment<D> as Shows>⟧.io in
         IfOk result (λ status. IsServedDesign inputs.entry.limits (D.Texts.gives environment.old.texts)
         inputs.entry.def.now (map (λ lef. lef.now) inputs.entry.lefs.now)
-        (path_of inputs.entry.state) (path_of outputs.entry.save) (path_of outputs.entry.export) (AreAnswered lines)
+        (path_of inputs.entry.state) (path_of journal.entry) (path_of outputs.entry.save)
+        (path_of outputs.entry.export) (AreAnswered lines)
         (streams_of (io environment.old) (io environment.new)) × (status ≡ 0)) }
     ensures err { let io = ⟦<Environment<D> as Shows>⟧.io in
         IfErr result (λ fault. IsUndone inputs.entry.limits (D.Texts.gives environment.old.texts)
         inputs.entry.def.now (map (λ lef. lef.now) inputs.entry.lefs.now)
-        (path_of inputs.entry.state) (path_of outputs.entry.save) (path_of outputs.entry.export) (IsServingFault lines)
+        (path_of inputs.entry.state) (path_of journal.entry) (path_of outputs.entry.save)
+        (path_of outputs.entry.export) (IsServingFault lines)
         (AreAnswered lines) fault
         (streams_of (io environment.old) (io environment.new))
         × BlamesIn lines (environment.new.writer ≡ environment.old.writer) (io environment.old) (io environment.new) fault) }
@@ -160,15 +169,10 @@ pub fn serve_files<'a, D: Devices>(
     ensures unreported { environment.new.faults ≡ environment.old.faults }
     ensures keeps { let io = ⟦<Environment<D> as Shows>⟧.io in KeepsStreams (io environment.old) (io environment.new) }
 {
-    let DesignInput {
-        def,
-        lefs,
-        state,
-        limits,
-    } = inputs;
+    let DesignInput { def, lefs, limits, .. } = inputs;
     let is_text_kept = outputs.export.is_some();
     let design = open_design(alloc, limits, &environment.texts, def, lefs, is_text_kept)?;
-    serve_design(alloc, environment, design, state, lines, outputs)
+    serve_design(alloc, environment, design, inputs, journal, lines, outputs)
 }
 
 /// Answers the lines of the reader over the design, at most 1,000,000, and exports nothing. Returns

@@ -31,6 +31,7 @@ fn replay_with<'a>(
         lefs: only_lef(alloc)?,
         state,
         slots,
+        journal: None,
         lines: 1_000_000,
         save,
         export: None,
