@@ -14,7 +14,7 @@ use sqlite_disk::Disk;
 use std::alloc::Global;
 
 /// Opens the segment. `Err` if the disk fails, or the segment is damaged.
-fn open_segment<'a, D: Disk>(
+fn open_segment<'a, D: Disk + Drop>(
     alloc: Global,
     disk: &mut D,
     folder: &'a str,
@@ -33,7 +33,7 @@ fn open_segment<'a, D: Disk>(
 }
 
 /// Begins a segment that has no batch.
-fn begin<'a, D: Disk>(
+fn begin<'a, D: Disk + Drop>(
     alloc: Global,
     time: u64,
     journal: &mut Journal<D>,
@@ -51,7 +51,7 @@ fn begin<'a, D: Disk>(
 }
 
 /// Opens the journal of a folder, and runs its records on the floor.
-pub(crate) fn open_journal<'a, T: InputFiles, D: Disk>(
+pub(crate) fn open_journal<'a, T: InputFiles, D: Disk + Drop>(
     alloc: Global,
     texts: &T,
     time: u64,
