@@ -39,7 +39,9 @@ fn put_lef_names<'a, T: InputFiles>(
 {
     for lef in lefs {
         let name = name_of_file(alloc, texts, lef_file(lef))?;
-        names.push(name)?;
+        if names.push(name).is_err() {
+            return Err(Fault::SetupOutOfMemory);
+        }
     }
     Ok(())
 }
@@ -58,7 +60,9 @@ pub(crate) fn line_of_files<'a, T: InputFiles>(
 {
     let first = name_of_file(alloc, texts, def_file(def))?;
     let mut names = Vec::new(alloc);
-    names.push(first)?;
+    if names.push(first).is_err() {
+        return Err(Fault::SetupOutOfMemory);
+    }
     put_lef_names(alloc, texts, lefs, &mut names)?;
     let line = design_line(alloc, u64::from(sessions), &names)?;
     Ok(line)
