@@ -82,8 +82,8 @@ GROUPS = {
     "journal": Group(
         "lf_journal lf_journal_*",
         "the journal of a hub. `_text` is its text, `lf_journal` puts batches on a disk, `_file` is a file as a disk,"
-        " and `_run` runs the records of a journal on a floor."
-        " No program uses these crates yet: the journal of today's hub is `front/lefence/journal`",
+        " and `_run` runs the records of a journal on a floor, for `replay --journal`. No program writes such journals"
+        " yet: the journal of today's hub is `front/lefence/journal`",
     ),
     "repairs": Group(
         "lf_repair_*",
@@ -108,9 +108,9 @@ GROUPS = {
         "lf_task_* lf_app lefence",
         "tasks over files. `_usage` prints help and messages about wrong words, `_faults` prints faults, `_designs`"
         " opens designs, `_files` has `check`, `describe` and what the other tasks share, `_reports` makes the reports"
-        " of wire lengths, repairs and improvements, and `_run` runs a work on a floor. `_wires`, `_serve`, `_repair`"
-        " and `_improve` are the other tasks. `lf_app` does what the words of a command line request, and `lefence` is"
-        " the program",
+        " of wire lengths, repairs and improvements, `_journal` makes the floor with which lines begin, and `_run` runs"
+        " a work on a floor. `_wires`, `_serve`, `_repair` and `_improve` are the other tasks. `lf_app` does what the"
+        " words of a command line request, and `lefence` is the program",
     ),
     "tests": Group("lf_tests_* lefence_rows lefence_bench", "tests in code, worked rows, and the bench of loading"),
 }
@@ -316,8 +316,8 @@ RULES = (
         "A command is answered the same over a socket, a pipe or a file.",
     ),
     Rule(
-        "lf_task_usage lf_task_faults lf_task_designs lf_task_files lf_task_wires lf_task_run lf_task_serve"
-        " lf_task_repair lf_task_improve lf_app lefence",
+        "lf_task_usage lf_task_faults lf_task_designs lf_task_files lf_task_wires lf_task_journal lf_task_run"
+        " lf_task_serve lf_task_repair lf_task_improve lf_app lefence",
         Kind.ORDERED,
         "",
         "What tasks share is below them. `lf_task_repair` and `lf_task_improve` are works that `lf_task_run` runs.",

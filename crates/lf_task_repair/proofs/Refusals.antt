@@ -20,6 +20,7 @@ refusal_early : (team : List ℕ) (fault : Fault) → IsRefusalOf team fault →
 refusal_early team (Refused file its) is = absurd is
 refusal_early team (File file why) is = absurd is
 refusal_early team (RefusedState path its) is = absurd is
+refusal_early team (RefusedJournal path its) is = absurd is
 refusal_early team (NoTeam name) is = absurd is
 refusal_early team (RefusedTeam name cause) is = tt
 refusal_early team (TeamDiffers differing its_team) is = absurd is

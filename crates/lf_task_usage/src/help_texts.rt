@@ -17,7 +17,7 @@ pub(crate) const PROGRAM: &str =
                                 broken rules
   lefence wirelength DEF LEF... [--state FILE] [--sessions N]
                                 writes the half-perimeter wire length of the nets, of each team and of all
-  lefence replay DEF LEF... [--state FILE] [--save FILE] [--export FILE] [--lines N] [--sessions N]
+  lefence replay DEF LEF... [--state FILE] [--journal FILE] [--save FILE] [--export FILE] [--lines N] [--sessions N]
                                 answers at most N lines of standard input over the design; then writes its text,
                                 with the committed places, to FILE
   lefence serve DEF LEF... --port P --connections N [--state FILE] [--save FILE] [--export FILE] [--sessions N]
@@ -85,13 +85,14 @@ example:
 
 /// The help of `replay`.
 pub(crate) const REPLAY: &str =
-    "lefence replay DEF LEF... [--state FILE] [--save FILE] [--export FILE] [--lines N] [--sessions N]
+    "lefence replay DEF LEF... [--state FILE] [--journal FILE] [--save FILE] [--export FILE] [--lines N] [--sessions N]
 
 Answers the lines of standard input over the design, one reply to each line, to the end of the input or a line
 'bye'. At most N lines are answered (1 to 4294967295; 1000000 if not given). --export then writes the DEF text with
 the committed places to FILE; all else in it is unchanged. --save writes the state at the end to FILE, and --state
-starts from a state that was saved so. With --sessions, each team has N session slots (1 to 64; 8 if not given); a
-state is read and written with the same number.
+starts from a state that was saved so. --journal first runs the journal in FILE, and compares each reply with the
+recorded one; the design and the state must be those of the journal. With --sessions, each team has N session slots
+(1 to 64; 8 if not given); a state or a journal is read with the number with which it was written.
 
 example:
   lefence replay chip.def tech.lef cells.lef --export new.def < session.txt
