@@ -15,6 +15,7 @@ const LABEL: usize = 64;
 
 /// A line of a client that the hub answers itself. Its names have the type `N`: slices of a line,
 /// or lists of bytes in a contract.
+#[derive(Drop)]
 pub enum HubLine<N> {
     /// `iam NAME`: the name is the label of the connection. It has 1 to 64 letters, digits, `_`,
     /// `.`, `-` and `@`.
