@@ -39,6 +39,13 @@ impl<S: Seeker + Drop> Floor<S> {
         self.tables.padding(number)
     }
 
+    /// Returns the number of changes that the team of that number has made.
+    pub fn revision_of(&self, number: usize) -> u32
+        ensures { (s : TeamState) → slice_get self.now.teams number ≡ Some s → result ≡ s.revision }
+    {
+        self.tables.revision(number)
+    }
+
     /// Returns true if the team of that number has a cell at that position in loading order, the
     /// first at 0, which is placed and team-legal. Does not allocate.
     pub fn is_cell_legal(&self, number: usize, own: usize) -> bool

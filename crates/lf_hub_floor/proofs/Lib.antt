@@ -3,6 +3,6 @@ pub mod Recording
 pub mod LineCases
 pub mod Runs
 pub mod OwnReplies
-pub mod Guests
+pub mod QuerySessions
 pub mod Executing
 pub mod ClosingLines

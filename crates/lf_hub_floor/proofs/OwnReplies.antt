@@ -27,7 +27,7 @@ use Rattle.lf_hub_clients.specs.declared.floor.Outcome.{Outcome}
 use Rattle.lf_hub_clients.specs.declared.floor.Outcome.TheVariants.{Unchanged, Named}
 use Rattle.lf_hub_clients.specs.Turns.{refusal}
 use Rattle.lf_hub_floor.specs.Answers.{AnswersLine, AnswersNoRequest, AnswersOwn, AnswersRequest, StaysOut, gives_label, is_own, name_of_team, outcome_of, request_on}
-use Rattle.lf_hub_floor.specs.QueryAnswers.{ShowsLine, ShowsOrder, ShowsOwn, ShowsReply, guest_reply, queries_only}
+use Rattle.lf_hub_floor.specs.QueryAnswers.{ShowsLine, ShowsOrder, ShowsOwn, ShowsReply, query_reply, queries_only}
 use Rattle.lf_hub_floor.specs.Laws.{AgreeOn, AreSameFor, QueriesAreOwn, RepliesAreOwn}
 use Rattle.lf_hub_floor.proofs.LongReplies.{step_answers}
 
@@ -188,8 +188,8 @@ module _ (l : Legalizer) (team : ℕ) (a b : FloorState) (agree : AgreeOn team a
       let named' : team_number b.frame agree.name ≡ Some number = sym (ap (λ (f : Frame). team_number f agree.name) agree.frame) ∙ named in
       let there : slice_get a.teams number ≡ Some agree.state = sym (ap (state_at a.teams) named) ∙ agree.in_first in
       let there' : slice_get b.teams number ≡ Some agree.state = sym (ap (state_at b.teams) named') ∙ agree.in_second in
-      expected_same (guest_reply (team_rules l a.frame number agree.state.padding) order agree.state) (first number agree.state named there)
-      (subst (λ (f : Frame). MatchOption (guest_reply (team_rules l f number agree.state.padding) order agree.state) (text' ≡ queries_only)
+      expected_same (query_reply (team_rules l a.frame number agree.state.padding) order agree.state) (first number agree.state named there)
+      (subst (λ (f : Frame). MatchOption (query_reply (team_rules l f number agree.state.padding) order agree.state) (text' ≡ queries_only)
       (λ expected. ShowsReply b agree.name expected text')) (sym agree.frame) (second number agree.state named' there'))
 
   to_shown : (name : Option (List ℕ)) (command : Command (List ℕ) Place) → name ≡ Some agree.name → is_own name command ≡ true

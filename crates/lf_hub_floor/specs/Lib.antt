@@ -1,4 +1,4 @@
 pub mod Answers
-pub mod Guests
+pub mod QuerySessions
 pub mod QueryAnswers
 pub mod Laws

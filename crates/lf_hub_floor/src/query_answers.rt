@@ -1,61 +1,33 @@
 //! The answer to a line of a query socket, which changes nothing.
 
-ghost use Rattle.std.specs.Prelude.{◌≡◌, ◌≤◌, [], ℕ, List, IfSome, MatchOption, Some, false, length, option_map, slice_get, true, unwrap_or, vec_capacity};
+ghost use Rattle.std.specs.Prelude.{◌≡◌, ◌≤◌, [], ℕ, MatchOption, Some, slice_get, true, vec_capacity};
 ghost use Rattle.lf_rules.specs.Legalizer.{Legalizer};
 ghost use Rattle.lf_proto.specs.Commands.{order_of};
 ghost use Rattle.lf_proto.specs.Verbs.{action_of};
 ghost use Rattle.lf_proto.specs.declared.request.Command.TheVariants.{To};
-ghost use Rattle.lf_proto.specs.declared.request.TeamCommand.TheVariants.{Open, Within};
-ghost use Rattle.lf_proto.specs.declared.verb.Action.TheVariants.{Sync};
-ghost use Rattle.lf_proto.specs.declared.reply.Reply.TheVariants.{Refused};
-ghost use Rattle.lf_proto.specs.declared.reply.Refusal.TheVariants.{SessionsFull};
+ghost use Rattle.lf_proto.specs.declared.request.TeamCommand.TheVariants.{Within};
 ghost use Rattle.lf_floor_model.specs.States.{FloorState, TeamState};
 ghost use Rattle.lf_floor_model.specs.Teams.{team_number};
-ghost use Rattle.lf_server.specs.Exchanges.{StepsOn, is_long, reply_text_of};
+ghost use Rattle.lf_server.specs.Exchanges.{StepsOn};
 ghost use Rattle.lf_hub_floor.specs.Answers.{is_query_action};
-ghost use Rattle.lf_hub_floor.specs.Guests.{IsFullFor, IsGuest, query_in};
-ghost use Rattle.lf_hub_floor.specs.QueryAnswers.{ShowsLine, ShowsOrder, revision_if_free};
+ghost use Rattle.lf_hub_floor.specs.QueryAnswers.{ShowsLine, ShowsOrder};
+ghost use Rattle.lf_hub_floor.specs.QuerySessions.{HasNoFreeSlot, OpensSession};
 
 use crate::line_answers::{execute, is_own};
 use crate::reply_texts::put;
 use lf_floor::Floor;
 use lf_hub_lines::ended_line;
 use lf_legalize::Seeker;
-use lf_proto::{Action, Command, Refusal, Reply, TeamCommand};
+use lf_proto::{Action, Command, Reply, TeamCommand};
 use lf_rules::legalizer_exists;
 use lf_server::{request_of_line, write_short_reply};
 
-/// A session that is opened to look at a team, and closed after that, with the team's revision.
-#[derive(Clone, Copy)]
-struct Guest {
-    session: u32,
-    revision: u32,
-}
-
-/// Returns a copy of the action if it is a query.
-fn query_in<'a>(action: &Action<&'a [u8]>) -> Option<Action<&'a [u8]>>
-    ensures { option_map action_of result ≡ query_in (action_of action.now) }
-{
-    match action {
-        Action::Check => Some(Action::Check),
-        Action::Def => Some(Action::Def),
-        Action::Where { cell } => Some(Action::Where { cell: *cell }),
-        Action::Find { cell, target } => Some(Action::Find {
-            cell: *cell,
-            target: *target,
-        }),
-        Action::Close => None,
-        Action::Sync => None,
-        Action::Change(_) => None,
-    }
-}
-
-/// Opens a session of the team of this name. `None` if no slot is free, or if there is no such team;
-/// then the floor is as it was.
-#[tactic(auto, using(crate::proofs::Guests::opens_guest, crate::proofs::Guests::opens_none))]
-fn begin<K: Seeker + Drop>(floor: &mut Floor<K>, team: &[u8]) -> Option<Guest>
-    ensures { MatchOption result (IsFullFor floor.old team.now floor.new)
-        (λ guest. IsGuest floor.old team.now guest.session guest.revision floor.new) }
+/// Opens a session of the team of this name, for a query. `None` if no slot is free, or if there is
+/// no such team; then the floor is as it was.
+#[tactic(auto, using(crate::proofs::QuerySessions::opens_session, crate::proofs::QuerySessions::opens_none))]
+fn open_session<K: Seeker + Drop>(floor: &mut Floor<K>, team: &[u8]) -> Option<u32>
+    ensures { MatchOption result (HasNoFreeSlot floor.old team.now floor.new)
+        (λ session. OpensSession floor.old team.now session floor.new) }
 {
     legalizer_exists();
     let request = Command::To {
@@ -63,16 +35,15 @@ fn begin<K: Seeker + Drop>(floor: &mut Floor<K>, team: &[u8]) -> Option<Guest>
         order: TeamCommand::Open,
     };
     match floor.step(&request) {
-        Reply::Opened { session, revision } => Some(Guest { session, revision }),
+        Reply::Opened { session, .. } => Some(session),
         _ => None,
     }
 }
 
-/// Closes the session. The floor is then as it was before it was opened.
-#[tactic(auto, using(crate::proofs::Guests::closes_guest))]
-fn end<K: Seeker + Drop>(floor: &mut Floor<K>, team: &[u8], session: u32)
-    ensures { (before : FloorState) (revision : ℕ) → IsGuest before team.now session revision floor.old
-        → floor.new ≡ before }
+/// Closes the session after the query. The floor is then as it was before it was opened.
+#[tactic(auto, using(crate::proofs::QuerySessions::closes_session))]
+fn close_session<K: Seeker + Drop>(floor: &mut Floor<K>, team: &[u8], session: u32)
+    ensures { (before : FloorState) → OpensSession before team.now session floor.old → floor.new ≡ before }
 {
     legalizer_exists();
     let request = Command::To {
@@ -86,32 +57,29 @@ fn end<K: Seeker + Drop>(floor: &mut Floor<K>, team: &[u8], session: u32)
 }
 
 /// Executes an action in a session of the team, and writes the text of the reply.
-fn ask_in<K: Seeker + Drop>(
+fn execute_within<K: Seeker + Drop>(
     floor: &mut Floor<K>,
     team: &[u8],
     session: u32,
-    query: Action<&[u8]>,
+    action: Action<&[u8]>,
     text: &mut Vec<u8>,
 ) -> Reply
     requires empty { text.old.items ≡ [] }
     requires room { 4096 ≤ vec_capacity text.old }
     ensures steps { (l : Legalizer)
-        → StepsOn l floor.old (To team.now (Within session (action_of query.entry))) result text.new.items floor.new }
+        → StepsOn l floor.old (To team.now (Within session (action_of action.entry))) result text.new.items floor.new }
     ensures capacity { vec_capacity text.old ≤ vec_capacity text.new }
 {
     let request = Command::To {
         team,
-        order: TeamCommand::Within {
-            session,
-            action: query,
-        },
+        order: TeamCommand::Within { session, action },
     };
     execute(floor, &request, text)
 }
 
 /// Answers a query of the team in a session that is opened for it, or in session 0 if no slot is
 /// free.
-#[tactic(auto, using(crate::proofs::Guests::guest_shows, crate::proofs::Guests::full_shows, crate::proofs::Guests::query_keeps))]
+#[tactic(auto, using(crate::proofs::QuerySessions::shows_in_session, crate::proofs::QuerySessions::shows_without_slot, crate::proofs::QuerySessions::query_keeps))]
 fn look_query<K: Seeker + Drop>(
     floor: &mut Floor<K>,
     team: &[u8],
@@ -128,101 +96,81 @@ fn look_query<K: Seeker + Drop>(
 {
     legalizer_exists();
     floor.teams_match_frame();
-    match begin(floor, team) {
-        Some(guest) => {
-            let _reply = ask_in(floor, team, guest.session, query, text);
-            end(floor, team, guest.session);
+    match open_session(floor, team) {
+        Some(session) => {
+            let _reply = execute_within(floor, team, session, query, text);
+            close_session(floor, team, session);
         }
         None => {
-            let _reply = ask_in(floor, team, 0, query, text);
+            let _reply = execute_within(floor, team, 0, query, text);
         }
     }
 }
 
-/// Returns the revision of the team of this name if a session slot is free. `None` if none is, or if
-/// there is no such team.
-fn free_revision<K: Seeker + Drop>(floor: &mut Floor<K>, team: &[u8]) -> Option<u32>
-    ensures revision { (number : ℕ) (s : TeamState) → team_number floor.old.frame team.now ≡ Some number
-        → slice_get floor.old.teams number ≡ Some s → result ≡ revision_if_free s }
-    ensures unchanged { floor.new ≡ floor.old }
+/// Returns the revision of the team of this name; 0 if there is no such team.
+fn revision_of<K: Seeker + Drop>(floor: &Floor<K>, team: &[u8]) -> u32
+    ensures { (number : ℕ) (s : TeamState) → team_number floor.now.frame team.now ≡ Some number
+        → slice_get floor.now.teams number ≡ Some s → result ≡ s.revision }
 {
-    let guest = begin(floor, team)?;
-    end(floor, team, guest.session);
-    Some(guest.revision)
+    match floor.team_number(team) {
+        Some(number) => floor.revision_of(number),
+        None => 0,
+    }
 }
 
-/// Writes the reply to `open` or `sync`, if a slot is free.
-fn put_revision<K: Seeker + Drop>(
-    floor: &Floor<K>,
+/// Answers an action of a session of the team.
+fn look_within<K: Seeker + Drop>(
+    floor: &mut Floor<K>,
     team: &[u8],
-    reply: Option<Reply>,
+    action: Action<&[u8]>,
     text: &mut Vec<u8>,
 )
-    requires short { IfSome reply (λ r. is_long r ≡ false) }
+    requires empty { text.old.items ≡ [] }
     requires room { 4096 ≤ vec_capacity text.old }
-    ensures shows { text.new.items ≡ reply_text_of floor.now team.now (unwrap_or reply (Refused SessionsFull)) }
-    ensures capacity { vec_capacity text.old ≤ vec_capacity text.new }
-{
-    let reply = reply.unwrap_or(Reply::Refused(Refusal::SessionsFull));
-    write_short_reply(text, floor, team, &reply);
-}
-
-/// Answers `open`: session 0, which takes no slot.
-fn look_open<K: Seeker + Drop>(floor: &mut Floor<K>, team: &[u8], text: &mut Vec<u8>)
-    requires room { 4096 ≤ vec_capacity text.old }
-    ensures shows { (l : Legalizer) → ShowsOrder l floor.old team.now Open text.new.items }
+    ensures shows { (l : Legalizer) (session : ℕ)
+        → ShowsOrder l floor.old team.now (Within session (action_of action.entry)) text.new.items }
     ensures unchanged { floor.new ≡ floor.old }
     ensures capacity { vec_capacity text.old ≤ vec_capacity text.new }
 {
-    let reply = match free_revision(floor, team) {
-        Some(revision) => Some(Reply::Opened {
-            session: 0,
-            revision,
-        }),
-        None => None,
-    };
-    put_revision(floor, team, reply, text);
-}
-
-/// Answers `sync`: the revision.
-fn look_sync<K: Seeker + Drop>(floor: &mut Floor<K>, team: &[u8], text: &mut Vec<u8>)
-    requires room { 4096 ≤ vec_capacity text.old }
-    ensures shows { (l : Legalizer) (session : ℕ) → ShowsOrder l floor.old team.now (Within session Sync) text.new.items }
-    ensures unchanged { floor.new ≡ floor.old }
-    ensures capacity { vec_capacity text.old ≤ vec_capacity text.new }
-{
-    let reply = match free_revision(floor, team) {
-        Some(revision) => Some(Reply::Revision(revision)),
-        None => None,
-    };
-    put_revision(floor, team, reply, text);
+    match action {
+        Action::Close => put(text, b"ok\n"),
+        Action::Sync => {
+            let revision = revision_of(floor, team);
+            write_short_reply(text, floor, team, &Reply::Revision(revision));
+        }
+        Action::Check => look_query(floor, team, Action::Check, text),
+        Action::Def => look_query(floor, team, Action::Def, text),
+        Action::Where { cell } => look_query(floor, team, Action::Where { cell }, text),
+        Action::Find { cell, target } => {
+            look_query(floor, team, Action::Find { cell, target }, text);
+        }
+        Action::Change(_) => put(text, b"no 15 QueriesOnly\n"),
+    }
 }
 
 /// Answers a command of the socket's team.
 fn look_order<K: Seeker + Drop>(
     floor: &mut Floor<K>,
     team: &[u8],
-    order: &TeamCommand<&[u8]>,
+    order: TeamCommand<&[u8]>,
     text: &mut Vec<u8>,
 )
     requires empty { text.old.items ≡ [] }
     requires room { 4096 ≤ vec_capacity text.old }
-    ensures shows { (l : Legalizer) → ShowsOrder l floor.old team.now (order_of order.now) text.new.items }
+    ensures shows { (l : Legalizer) → ShowsOrder l floor.old team.now (order_of order.entry) text.new.items }
     ensures unchanged { floor.new ≡ floor.old }
     ensures capacity { vec_capacity text.old ≤ vec_capacity text.new }
 {
-    let TeamCommand::Within { action, .. } = order else {
-        look_open(floor, team, text);
-        return;
-    };
-    match action {
-        Action::Close => put(text, b"ok\n"),
-        Action::Sync => look_sync(floor, team, text),
-        Action::Change(_) => put(text, b"no 15 QueriesOnly\n"),
-        _ => match query_in(action) {
-            Some(query) => look_query(floor, team, query, text),
-            None => {}
-        },
+    match order {
+        TeamCommand::Open => {
+            let revision = revision_of(floor, team);
+            let reply = Reply::Opened {
+                session: 0,
+                revision,
+            };
+            write_short_reply(text, floor, team, &reply);
+        }
+        TeamCommand::Within { action, .. } => look_within(floor, team, action, text),
     }
 }
 
@@ -250,6 +198,6 @@ pub(crate) fn look_line<K: Seeker + Drop>(
     }
     match request {
         Command::Bye => put(text, b"ok\n"),
-        Command::To { team, order } => look_order(floor, team, &order, text),
+        Command::To { team, order } => look_order(floor, team, order, text),
     }
 }

@@ -107,3 +107,19 @@ fn looks_without_sessions(rt: HostRuntime) -> Result<(), Fail> {
     assert!(rt; shows(rt.alloc(), &mut floor, 0, b"sync A 3", b"ok 1\n")?);
     Ok(())
 }
+
+/// A query socket takes no slot: it answers even if all eight sessions of the team are open.
+#[test]
+fn looks_without_free_slots(rt: HostRuntime) -> Result<(), Fail> {
+    let mut floor = floor(rt.alloc())?;
+    for session in 0..8 {
+        let opened = Outcome::Opened { session };
+        let mut text = Vec::with_capacity(rt.alloc(), ROOM)?;
+        assert!(rt; floor.answer(0, b"open A", &mut text) == opened);
+    }
+    assert!(rt; answers(rt.alloc(), &mut floor, 0, b"open A", b"no 10 SessionsFull\n", Outcome::Unchanged)?);
+    assert!(rt; shows(rt.alloc(), &mut floor, 0, b"open A", b"ok 0 0\n")?);
+    assert!(rt; shows(rt.alloc(), &mut floor, 0, b"sync A 9", b"ok 0\n")?);
+    assert!(rt; shows(rt.alloc(), &mut floor, 0, b"where A 9 a1", b"no 6 Unplaced a1\n")?);
+    Ok(())
+}

@@ -1,5 +1,5 @@
--- A session is opened to look at a team, and closed after that: the floor is as it was, and the reply is
--- that of any session.
+-- A session is opened for a query, and closed after it: the floor is as it was, and the reply is that of
+-- any session.
 use Rattle.std.proofs.Common.{◌≡◌, ◌≢◌, ◌⊎◌, inl, inr, ℕ, ◌<◌, ◌≤◌, zero, suc, List, [], ◌∷◌, length, set, get_or, Bool, true, false, not, ◌&&◌, Option, Some, None, refl, ap, sym, ◌∙◌, subst, arith}
 use Rattle.std.specs.Prelude.{All, MatchBool, MatchOption, option_and_then, position, is_none, slice_get, slice_set, unwrap_or}
 use Rattle.std.specs.Option.{option_map_or}
@@ -34,8 +34,8 @@ use Rattle.lf_floor_model.specs.Steps.{Answer, AllocatesNothing, IsAnswerOf, IsG
 use Rattle.lf_floor_model.proofs.Forms.{answer_by, found_at, found_own, located_at, located_own, state_at}
 use Rattle.lf_server.specs.Exchanges.{StepsOn, name_in, reply_cells, reply_text_of}
 use Rattle.lf_hub_floor.specs.Answers.{is_query_action}
-use Rattle.lf_hub_floor.specs.Guests.{IsFullFor, IsGuest, with_guest, with_team}
-use Rattle.lf_hub_floor.specs.QueryAnswers.{ShowsOrder, ShowsReply, guest_reply, if_free, queries_only, reply_within}
+use Rattle.lf_hub_floor.specs.QuerySessions.{HasNoFreeSlot, OpensSession, with_session, with_team}
+use Rattle.lf_hub_floor.specs.QueryAnswers.{ShowsOrder, ShowsReply, query_reply, queries_only}
 use Rattle.lf_hub_floor.proofs.LongReplies.{kept_unless_lasting, step_answers}
 
 -- ---- steps that allocate nothing
@@ -66,8 +66,8 @@ team_answer l floor team number order s named there =
 -- A session was opened, or not.
 abbrev pub IsOpenedOrFull : FloorState → List ℕ → Reply → FloorState → Type 0
 IsOpenedOrFull old team reply mid =
-    ((session : ℕ) × (revision : ℕ) × (reply ≡ Opened session revision) × IsGuest old team session revision mid)
-    ⊎ (((session revision : ℕ) → reply ≡ Opened session revision → ⊥) × IsFullFor old team mid)
+    ((session : ℕ) × (revision : ℕ) × (reply ≡ Opened session revision) × OpensSession old team session mid)
+    ⊎ (((session revision : ℕ) → reply ≡ Opened session revision → ⊥) × HasNoFreeSlot old team mid)
 
 refused_not_opened : (reply : Reply) → is_ok reply ≡ false → (session revision : ℕ) → reply ≡ Opened session revision → ⊥
 refused_not_opened reply denied session revision is = false≢true (sym denied ∙ ap is_ok is)
@@ -89,7 +89,6 @@ module _ (old : FloorState) (team : List ℕ) (reply : Reply) (mid : FloorState)
     named = named;
     there = there;
     free = free;
-    revision_is = refl;
     is = floor_is;
   })
 
@@ -119,27 +118,26 @@ module _ (old : FloorState) (team : List ℕ) (reply : Reply) (mid : FloorState)
   opened_or_full : (l : Legalizer) → Step l old (To team Open) reply mid → IsOpenedOrFull old team reply mid
   opened_or_full l step = by_answer l (by_short l old mid (To team Open) reply (is_short reply) step refl)
 
-  opened_same : (session revision n r : ℕ) → Opened n r ≡ Opened session revision → IsGuest old team n r mid → IsGuest old team session revision mid
-  opened_same session revision n r is guest =
+  opened_same : (session n r revision : ℕ) → Opened n r ≡ Opened session revision → OpensSession old team n mid → OpensSession old team session mid
+  opened_same session n r revision is opens =
       let n_is : n ≡ session = cc in
-      let r_is : r ≡ revision = cc in
-      subst (λ (k : ℕ). IsGuest old team session k mid) r_is (subst (λ (k : ℕ). IsGuest old team k r mid) n_is guest)
+      subst (λ (k : ℕ). OpensSession old team k mid) n_is opens
 
-  pub opens_guest : (l : Legalizer) (session revision : ℕ) → Step l old (To team Open) reply mid → reply ≡ Opened session revision
-      → IsGuest old team session revision mid
-  opens_guest l session revision step is = elim (opened_or_full l step) [
-    | inl (n, r, reply_is, guest) ↦ opened_same session revision n r (sym reply_is ∙ is) guest
+  pub opens_session : (l : Legalizer) (session revision : ℕ) → Step l old (To team Open) reply mid → reply ≡ Opened session revision
+      → OpensSession old team session mid
+  opens_session l session revision step is = elim (opened_or_full l step) [
+    | inl (n, r, reply_is, opens) ↦ opened_same session n r revision (sym reply_is ∙ is) opens
     | inr (never, full) ↦ absurd (never session revision is)
   ]
 
   pub opens_none : (l : Legalizer) → Step l old (To team Open) reply mid → ((session revision : ℕ) → reply ≡ Opened session revision → ⊥)
-      → IsFullFor old team mid
+      → HasNoFreeSlot old team mid
   opens_none l step never = elim (opened_or_full l step) [
-    | inl (n, r, reply_is, guest) ↦ absurd (never n r reply_is)
+    | inl (n, r, reply_is, opens) ↦ absurd (never n r reply_is)
     | inr (differs, full) ↦ full
   ]
 
--- ---- the state of a guest
+-- ---- the team with the session
 
 get_set_same : {X : Type 0} (xs : List X) (i : ℕ) (x : X) → i < length xs → slice_get (set xs i x) i ≡ Some x
 get_set_same [] i x l = absurd (omega arith)
@@ -150,52 +148,52 @@ is_none_none : (o : Option ℕ) → is_none o ≡ true → o ≡ None
 is_none_none None e = refl
 is_none_none (Some n) e = absurd (false≢true e)
 
-module _ (old : FloorState) (team : List ℕ) (session revision : ℕ) (mid : FloorState) (guest : IsGuest old team session revision mid) where
+module _ (old : FloorState) (team : List ℕ) (session : ℕ) (mid : FloorState) (opens : OpensSession old team session mid) where
   abbrev s : TeamState
-  s = guest.state
+  s = opens.state
 
   abbrev looking : TeamState
-  looking = with_guest session s
+  looking = with_session session s
 
   abbrev placed : FloorState
-  placed = with_team guest.number looking old
+  placed = with_team opens.number looking old
 
-  team_there : slice_get placed.teams guest.number ≡ Some looking
-  team_there = get_set_same old.teams guest.number looking (slice_get_within old.teams guest.number s guest.there)
+  team_there : slice_get placed.teams opens.number ≡ Some looking
+  team_there = get_set_same old.teams opens.number looking (slice_get_within old.teams opens.number s opens.there)
 
   slot_within : session < length s.slots
-  slot_within = (position-Some is_none s.slots session None guest.free).0
+  slot_within = (position-Some is_none s.slots session None opens.free).0
 
   slot_free : get_or s.slots session None ≡ None
-  slot_free = is_none_none (get_or s.slots session None) (position-Some is_none s.slots session None guest.free).1
+  slot_free = is_none_none (get_or s.slots session None) (position-Some is_none s.slots session None opens.free).1
 
-  guest_seen : seen_at looking.slots session ≡ Some s.revision
-  guest_seen = get_or-set_same s.slots session (Some s.revision) None slot_within
+  session_seen : seen_at looking.slots session ≡ Some s.revision
+  session_seen = get_or-set_same s.slots session (Some s.revision) None slot_within
 
-  guest_outcome : (l : Legalizer) (action : Action (List ℕ) Place)
+  session_outcome : (l : Legalizer) (action : Action (List ℕ) Place)
       → answer_of l placed (To team (Within session action))
-      ≡ answer_of_outcome placed guest.number (outcome_within s.revision (team_rules l old.frame guest.number s.padding) session action looking)
-  guest_outcome l action =
-      team_answer l placed team guest.number (Within session action) looking guest.named team_there
-      ∙ ap (λ (o : Option ℕ). answer_of_outcome placed guest.number (outcome_by_slot o (team_rules l old.frame guest.number s.padding) session action looking)) guest_seen
+      ≡ answer_of_outcome placed opens.number (outcome_within s.revision (team_rules l old.frame opens.number s.padding) session action looking)
+  session_outcome l action =
+      team_answer l placed team opens.number (Within session action) looking opens.named team_there
+      ∙ ap (λ (o : Option ℕ). answer_of_outcome placed opens.number (outcome_by_slot o (team_rules l old.frame opens.number s.padding) session action looking)) session_seen
 
   slots_back : slice_set (slice_set s.slots session (Some s.revision)) session None ≡ s.slots
   slots_back = set-set s.slots session (Some s.revision) None ∙ (ap (slice_set s.slots session) (sym slot_free) ∙ set-get_or s.slots session None)
 
-  floor_back : with_team guest.number (record looking { slots = slice_set looking.slots session None }) placed ≡ old
+  floor_back : with_team opens.number (record looking { slots = slice_set looking.slots session None }) placed ≡ old
   floor_back =
-      ap (λ (slots : List (Option ℕ)). with_team guest.number (record s { slots = slots }) placed) slots_back
-      ∙ (ap (λ (teams : List TeamState). record old { teams = teams }) (set-set old.teams guest.number looking s)
-      ∙ same_team old guest.number s guest.there)
+      ap (λ (slots : List (Option ℕ)). with_team opens.number (record s { slots = slots }) placed) slots_back
+      ∙ (ap (λ (teams : List TeamState). record old { teams = teams }) (set-set old.teams opens.number looking s)
+      ∙ same_team old opens.number s opens.there)
 
   close_answer : (l : Legalizer) → (answer_of l placed (To team (Within session Close))).floor ≡ old
   unfolding closed
-  close_answer l = ap (λ (a : Answer). a.floor) (guest_outcome l Close) ∙ floor_back
+  close_answer l = ap (λ (a : Answer). a.floor) (session_outcome l Close) ∙ floor_back
 
-  pub closes_guest : (l : Legalizer) (reply : Reply) (new : FloorState) → Step l mid (To team (Within session Close)) reply new → new ≡ old
-  closes_guest l reply new step =
+  pub closes_session : (l : Legalizer) (reply : Reply) (new : FloorState) → Step l mid (To team (Within session Close)) reply new → new ≡ old
+  closes_session l reply new step =
       let answers = by_short l mid new (To team (Within session Close)) reply (is_short reply) step refl in
-      answers.floor_is ∙ (ap (λ (f : FloorState). (answer_of l f (To team (Within session Close))).floor) guest.is ∙ close_answer l)
+      answers.floor_is ∙ (ap (λ (f : FloorState). (answer_of l f (To team (Within session Close))).floor) opens.is ∙ close_answer l)
 
 short_is : (reply : Reply) → is_short reply ≡ true → reply ≡ Refused OutOfMemory
 short_is (Refused OutOfMemory) short = refl
@@ -231,26 +229,26 @@ found_same t name target slots s = own (cell_named name s.cells) where
   own (Some n) = at (best_at t s.cells n target) n
 
 -- The reply to a query does not depend on its session, nor on the open ones.
-query_same : (t : TeamRules) (session seen : ℕ) (query : Action (List ℕ) Place) (slots : List (Option ℕ)) (s : TeamState) → is_query_action query ≡ true
-    → (outcome_within seen t session query (record s { slots = slots })).reply ≡ reply_within t query s
+query_same : (t : TeamRules) (session seen any : ℕ) (query : Action (List ℕ) Place) (slots : List (Option ℕ)) (s : TeamState) → is_query_action query ≡ true
+    → (outcome_within seen t session query (record s { slots = slots })).reply ≡ (outcome_within s.revision t any query s).reply
 unfolding checked written
-query_same t session seen Check slots s is = refl
-query_same t session seen Def slots s is = refl
-query_same t session seen (Where name) slots s is = located_same name slots s
-query_same t session seen (Find name target) slots s is = found_same t name target slots s
-query_same t session seen Close slots s is = absurd (false≢true is)
-query_same t session seen Sync slots s is = absurd (false≢true is)
-query_same t session seen (Changing change) slots s is = absurd (false≢true is)
+query_same t session seen any Check slots s is = refl
+query_same t session seen any Def slots s is = refl
+query_same t session seen any (Where name) slots s is = located_same name slots s
+query_same t session seen any (Find name target) slots s is = found_same t name target slots s
+query_same t session seen any Close slots s is = absurd (false≢true is)
+query_same t session seen any Sync slots s is = absurd (false≢true is)
+query_same t session seen any (Changing change) slots s is = absurd (false≢true is)
 
-guest_reply_is : (t : TeamRules) (session : ℕ) (query : Action (List ℕ) Place) (s : TeamState) → is_query_action query ≡ true
-    → guest_reply t (Within session query) s ≡ Some (reply_within t query s)
-guest_reply_is t session Check s is = refl
-guest_reply_is t session Def s is = refl
-guest_reply_is t session (Where name) s is = refl
-guest_reply_is t session (Find name target) s is = refl
-guest_reply_is t session Close s is = absurd (false≢true is)
-guest_reply_is t session Sync s is = absurd (false≢true is)
-guest_reply_is t session (Changing change) s is = absurd (false≢true is)
+query_reply_is : (t : TeamRules) (session : ℕ) (query : Action (List ℕ) Place) (s : TeamState) → is_query_action query ≡ true
+    → query_reply t (Within session query) s ≡ Some (outcome_within s.revision t session query s).reply
+query_reply_is t session (Changing change) s is = absurd (false≢true is)
+query_reply_is t session Check s is = refl
+query_reply_is t session Def s is = refl
+query_reply_is t session (Where name) s is = refl
+query_reply_is t session (Find name target) s is = refl
+query_reply_is t session Close s is = absurd (false≢true is)
+query_reply_is t session Sync s is = absurd (false≢true is)
 
 query_not_lasting : (ok : Bool) (team : List ℕ) (session : ℕ) (query : Action (List ℕ) Place) → is_query_action query ≡ true
     → (ok && not (is_query (To team (Within session query)))) ≡ false
@@ -299,38 +297,38 @@ state_is floor team number s named there = ap (state_at floor.teams) named ∙ t
 -- The reply to a command, of the one state that the team has.
 pub shows_state : (l : Legalizer) (floor : FloorState) (team : List ℕ) (number : ℕ) (s : TeamState) (order : TeamCommand (List ℕ) Place) (expected : Reply) (text : List ℕ)
     → team_number floor.frame team ≡ Some number → slice_get floor.teams number ≡ Some s
-    → guest_reply (team_rules l floor.frame number s.padding) order s ≡ Some expected → ShowsReply floor team expected text
+    → query_reply (team_rules l floor.frame number s.padding) order s ≡ Some expected → ShowsReply floor team expected text
     → ShowsOrder l floor team order text
 shows_state l floor team number s order expected text named there is shows = λ other t named' there'.
     let number_is : number ≡ other = same_Some number other (sym named ∙ named') in
     let state_is : s ≡ t = same_Some s t (sym there ∙ (ap (slice_get floor.teams) number_is ∙ there')) in
-    let P : ℕ → TeamState → Type 0 = λ n u. MatchOption (guest_reply (team_rules l floor.frame n u.padding) order u) (text ≡ queries_only)
+    let P : ℕ → TeamState → Type 0 = λ n u. MatchOption (query_reply (team_rules l floor.frame n u.padding) order u) (text ≡ queries_only)
     (λ expected. ShowsReply floor team expected text) in
     let here : P number s = subst (λ (o : Option Reply). MatchOption o (text ≡ queries_only) (λ expected. ShowsReply floor team expected text)) (sym is) shows in
     subst (P other) state_is (subst (λ (n : ℕ). P n s) number_is here)
 
--- A query in the session of a guest.
-pub guest_shows : (l : Legalizer) (old mid new : FloorState) (team : List ℕ) (session revision any : ℕ) (query : Action (List ℕ) Place) (reply : Reply) (text : List ℕ)
-    → IsGuest old team session revision mid → is_query_action query ≡ true → StepsOn l mid (To team (Within session query)) reply text new
+-- A query in the session that was opened for it.
+pub shows_in_session : (l : Legalizer) (old mid new : FloorState) (team : List ℕ) (session any : ℕ) (query : Action (List ℕ) Place) (reply : Reply) (text : List ℕ)
+    → OpensSession old team session mid → is_query_action query ≡ true → StepsOn l mid (To team (Within session query)) reply text new
     → ShowsOrder l old team (Within any query) text
-guest_shows l old mid new team session revision any query reply text guest is steps =
-    let t = team_rules l old.frame guest.number guest.state.padding in
-    let expected = reply_within t query guest.state in
+shows_in_session l old mid new team session any query reply text opens is steps =
+    let t = team_rules l old.frame opens.number opens.state.padding in
+    let expected = (outcome_within opens.state.revision t any query opens.state).reply in
     let command : Command (List ℕ) Place = To team (Within session query) in
-    let look = with_guest session guest.state in
-    let floor = with_team guest.number look old in
-    let same = query_same t session guest.state.revision query (slice_set guest.state.slots session (Some guest.state.revision)) guest.state is in
+    let looking = with_session session opens.state in
+    let floor = with_team opens.number looking old in
+    let same = query_same t session opens.state.revision any query (slice_set opens.state.slots session (Some opens.state.revision)) opens.state is in
     let answer_is : (answer_of l mid command).reply ≡ expected =
-    ap (λ (f : FloorState). (answer_of l f command).reply) guest.is
-    ∙ (ap (λ (a : Answer). a.reply) (guest_outcome old team session revision mid guest l query) ∙ same) in
-    let there : state_of new team ≡ Some look =
-    ap (λ (f : FloorState). state_of f team) (query_keeps l mid new team session query reply is steps.step ∙ guest.is)
-    ∙ state_is floor team guest.number look guest.named (team_there old team session revision mid guest) in
-    shows_state l old team guest.number guest.state (Within any query) expected text guest.named guest.there (guest_reply_is t any query guest.state is)
+    ap (λ (f : FloorState). (answer_of l f command).reply) opens.is
+    ∙ (ap (λ (a : Answer). a.reply) (session_outcome old team session mid opens l query) ∙ same) in
+    let there : state_of new team ≡ Some looking =
+    ap (λ (f : FloorState). state_of f team) (query_keeps l mid new team session query reply is steps.step ∙ opens.is)
+    ∙ state_is floor team opens.number looking opens.named (team_there old team session mid opens) in
+    shows_state l old team opens.number opens.state (Within any query) expected text opens.named opens.there (query_reply_is t any query opens.state is)
     record {
       reply = reply;
       is = said_by l mid new command reply expected (is_short reply) refl steps.step answer_is;
-      text_is = steps.text_is ∙ cells_text new old team look guest.state reply there (state_is old team guest.number guest.state guest.named guest.there) refl;
+      text_is = steps.text_is ∙ cells_text new old team looking opens.state reply there (state_is old team opens.number opens.state opens.named opens.there) refl;
     }
 
 -- ---- a team without a free slot
@@ -352,18 +350,18 @@ sessions_there old number s teams there =
     omega (arith, is.all_slots, old.frame.limits.allowed.sessions_within.least)
 
 -- A query in session 0, if no slot is free.
-pub full_shows : (l : Legalizer) (old new : FloorState) (team : List ℕ) (any : ℕ) (query : Action (List ℕ) Place) (reply : Reply) (text : List ℕ)
+pub shows_without_slot : (l : Legalizer) (old new : FloorState) (team : List ℕ) (any : ℕ) (query : Action (List ℕ) Place) (reply : Reply) (text : List ℕ)
     → is_query_action query ≡ true → StepsOn l old (To team (Within 0 query)) reply text new
-    → IsFullFor old team old → All (λ s. IsTeamOf old.frame s) old.teams → ShowsOrder l old team (Within any query) text
-full_shows l old new team any query reply text is steps full teams = λ number s named there.
+    → HasNoFreeSlot old team old → All (λ s. IsTeamOf old.frame s) old.teams → ShowsOrder l old team (Within any query) text
+shows_without_slot l old new team any query reply text is steps full teams = λ number s named there.
     let t = team_rules l old.frame number s.padding in
     let command : Command (List ℕ) Place = To team (Within 0 query) in
-    let expected = reply_within t query s in
+    let expected = (outcome_within s.revision t any query s).reply in
     let seen = some_seen (get_or s.slots 0 None) (none_is s.slots (full.full number s named there) (sessions_there old number s teams there)) in
     let answer_is : (answer_of l old command).reply ≡ expected =
     ap (λ (a : Answer). a.reply) (team_answer l old team number (Within 0 query) s named there)
-    ∙ (ap (λ (o : Option ℕ). (outcome_by_slot o t 0 query s).reply) seen.1 ∙ query_same t 0 seen.0 query s.slots s is) in
-    shows_state l old team number s (Within any query) expected text named there (guest_reply_is t any query s is) record {
+    ∙ (ap (λ (o : Option ℕ). (outcome_by_slot o t 0 query s).reply) seen.1 ∙ query_same t 0 seen.0 any query s.slots s is) in
+    shows_state l old team number s (Within any query) expected text named there (query_reply_is t any query s is) record {
       reply = reply;
       is = said_by l old new command reply expected (is_short reply) refl steps.step answer_is;
       text_is = steps.text_is ∙ ap (λ (f : FloorState). reply_text_of f team reply) (query_keeps l old new team 0 query reply is steps.step);
