@@ -1,4 +1,3 @@
 pub mod Services
 pub mod Records
-pub mod Endings
 pub mod Runs

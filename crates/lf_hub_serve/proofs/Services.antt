@@ -3,7 +3,7 @@ use Rattle.std.proofs.Common.{◌≡◌, ◌<◌, ◌≤◌, ◌⊎◌, ℕ, Lis
 use Rattle.std.specs.Prelude.{min, cond, nat_lt, Bool, false}
 use Rattle.lf_hub_clients.specs.Turns.{Turn}
 use Rattle.lf_hub_clients.specs.declared.client.Access.{Access}
-use Rattle.lf_hub_clients.specs.Connections.{Connection, new_connection, room_of}
+use Rattle.lf_hub_clients.specs.Connections.{Connection, is_open, new_connection, room_of}
 use Rattle.lf_hub.specs.Machine.{Hub, HubEvent, Opens, Comes, Answers, Closes, Syncs, Sends, Leaves, Frees, after, May, connection_at}
 use Rattle.lf_hub.proofs.Slots.{put-same}
 use Rattle.lf_hub.specs.Progress.{Advances, CoreState, last_turn, last_closing}
@@ -26,6 +26,11 @@ feed_length false = omega arith
 
 pub feed_fits : (c : Connection) (bytes : List ℕ) (room : ℕ) → bytes ≡ last_feed c → 0 < room → length bytes ≤ room
 feed_fits c bytes room e some = omega (arith, ap (λ (b : List ℕ). length b) e, feed_length (nat_lt 0 (length c.begun)), some)
+
+-- only an open client has room
+room_is_open : (b : Bool) (n : ℕ) → 0 < cond b n 0 → b ≡ true
+room_is_open true n h = refl
+room_is_open false n h = absurd (omega (arith, h))
 
 module _ {S : Type 0} (takes : S → Turn → S → Type 0) where
   pub serves_same : (a b : Service S) → b ≡ a → Serves takes a b
@@ -175,15 +180,15 @@ module _ {S : Type 0} (takes : S → Turn → S → Type 0) where
       })
 
   pub ended : (g h : Hub) (floor : S) (l m : List Call) (slot number : ℕ) (bytes : List ℕ)
-      → May g (Comes slot bytes) → h ≡ after g (Comes slot bytes) → number ≡ number_in slot g → bytes ≡ last_feed (connection_at slot g.slots)
-      → m ≡ l ++ Ended number ∷ [] → Serves takes (service g floor l) (service h floor m)
-  ended g h floor l m slot number bytes may e is feed p =
+      → May g (Comes slot bytes) → h ≡ after g (Comes slot bytes) → number ≡ number_in slot g
+      → is_open (connection_at slot g.slots).stage ≡ true → bytes ≡ last_feed (connection_at slot g.slots) → m ≡ l ++ Ended number ∷ [] → Serves takes (service g floor l) (service h floor m)
+  ended g h floor l m slot number bytes may e is is_still_open feed p =
       serves_one (service g floor l) (service h floor m) (Comes slot bytes) (record {
         may = may;
         hub = e;
         floor = refl;
         made = Ended number ∷ [];
-        on_wire = inr (ap (λ k. Ended k ∷ []) is, feed);
+        on_wire = inr (ap (λ k. Ended k ∷ []) is, is_still_open, feed);
         calls = p;
         saved = refl;
       })
@@ -198,11 +203,12 @@ module _ {S : Type 0} (takes : S → Turn → S → Type 0) where
 
   pub ended_whole : (g h : Hub) (floor : S) (l m : List Call) (slot number n : ℕ) (bytes : List ℕ)
       → slot < length g.slots → length bytes ≤ room_of (connection_at slot g.slots) → n ≡ min (length bytes) (room_of (connection_at slot g.slots))
-      → h ≡ after g (Comes slot (take n bytes)) → number ≡ number_in slot g → bytes ≡ last_feed (connection_at slot g.slots)
-      → m ≡ l ++ Ended number ∷ [] → Serves takes (service g floor l) (service h floor m)
-  ended_whole g h floor l m slot number n bytes below fits count e is feed p =
+      → h ≡ after g (Comes slot (take n bytes)) → number ≡ number_in slot g → 0 < room_of (connection_at slot g.slots)
+      → bytes ≡ last_feed (connection_at slot g.slots) → m ≡ l ++ Ended number ∷ [] → Serves takes (service g floor l) (service h floor m)
+  ended_whole g h floor l m slot number n bytes below fits count e is some feed p =
       ended g h floor l m slot number bytes (below, fits)
-      (e ∙ ap (λ (b : List ℕ). after g (Comes slot b)) (taken bytes n (room_of (connection_at slot g.slots)) count fits)) is feed p
+      (e ∙ ap (λ (b : List ℕ). after g (Comes slot b)) (taken bytes n (room_of (connection_at slot g.slots)) count fits)) is
+      (room_is_open (is_open (connection_at slot g.slots).stage) _ some) feed p
 
   pub sent : (g h : Hub) (floor : S) (l m : List Call) (slot number count : ℕ) (bytes : List ℕ)
       → May g (Sends slot count) → h ≡ after g (Sends slot count) → number ≡ number_in slot g → bytes ≡ (connection_at slot g.slots).ready

@@ -1,4 +1,4 @@
 pub mod Serving
 pub mod Saving
 pub mod Servers
-pub mod Laws
+pub mod Served

@@ -1,5 +1,6 @@
--- What a server shows.
-use Rattle.std.specs.Prelude.{◌≡◌, ℕ, List, [], ◌∷◌, ◌++◌, codes}
+-- What a server shows, and why serving ends.
+use Rattle.std.specs.Prelude.{◌≡◌, ◌⊎◌, ◌<◌, ◌≤◌, ◌^◌, ℕ, List, [], ◌∷◌, ◌++◌, codes, length, slice_index}
+use Rattle.sqlite_disk.specs.Disk.{MoreFaults}
 use Rattle.lf_hub_clients.specs.Turns.{Turn}
 use Rattle.lf_hub_wire.specs.Calls.{Call, Ordered, Told}
 use Rattle.lf_hub_serve.specs.declared.server.Server.{Server}
@@ -18,20 +19,33 @@ service_of calls server saved = record {
   saved = saved;
 }
 
--- A hub was served until this failed. All calls of the wire are events, but for one that brought what
--- there was no memory for.
-abbrev pub Fails : {S : Type 0} → (S → Turn → S → Type 0) → Failure → Service S → Service S → Type 0
-Fails takes (Disk error) old new = Serves takes old new
-Fails takes UnfitRecords old new = Serves takes old new
-Fails takes OutOfMemory old new = Breaks takes old new
+-- Events happen to a server, none of which saves records.
+abbrev pub GoesOn : {F W : Type 0} → (F → Turn → F → Type 0) → (W → List Call) → Server F W → Server F W → Type 0
+GoesOn takes calls old new = Serves takes (service_of calls old []) (service_of calls new [])
 
--- A hub was served, and ended so.
-abbrev pub Ends : {S : Type 0} → (S → Turn → S → Type 0) → Ending → Service S → Service S → Type 0
-Ends takes Stopped old new = Serves takes old new
-Ends takes (Failed failure) old new = Fails takes failure old new
-Ends takes Spent old new = Serves takes old new
+-- The same, and then there was no memory for what one call of the wire has brought.
+abbrev pub BreaksOff : {F W : Type 0} → (F → Turn → F → Type 0) → (W → List Call) → Server F W → Server F W → Type 0
+BreaksOff takes calls old new = Breaks takes (service_of calls old []) (service_of calls new [])
+
+-- ---- why serving ends
 
 -- The operator's last line was `stop`, and he was told so.
 abbrev pub IsStopped : List Call → Type 0
 IsStopped orders = (before : List Call)
     × (orders ≡ before ++ Ordered (codes "stop") ∷ Told (codes "ok" ++ 10 ∷ []) ∷ [])
+
+-- Records that no batch can have, since they are too long or one of their bytes is zero, or a segment
+-- that is too long for another batch.
+abbrev pub AreUnfit : List ℕ → ℕ → Type 0
+AreUnfit records end = (100000 ≤ length records) ⊎ ((i : ℕ) × (i < length records) × (slice_index records i ≡ 0)) ⊎ (2 ^ 62 < end)
+
+-- A call of the disk has failed, or the records do not fit in. A lack of memory shows nowhere.
+abbrev pub HasFailed : Failure → ℕ → ℕ → List ℕ → ℕ → Type 0
+HasFailed (Disk error) old_faults new_faults records end = MoreFaults old_faults new_faults
+HasFailed UnfitRecords old_faults new_faults records end = AreUnfit records end
+HasFailed OutOfMemory old_faults new_faults records end = Unit {0}
+
+abbrev pub HasCause : Ending → List Call → ℕ → ℕ → List ℕ → ℕ → Type 0
+HasCause Stopped orders old_faults new_faults records end = IsStopped orders
+HasCause (Failed failure) orders old_faults new_faults records end = HasFailed failure old_faults new_faults records end
+HasCause Spent orders old_faults new_faults records end = Unit {0}

@@ -1,6 +1,6 @@
 -- A hub that is served: events of the machine, and what they are on the wire and in the journal.
 use Rattle.std.specs.Prelude.{◌≡◌, ◌⊎◌, ℕ, Bool, true, false, cond, nat_lt, List, [], ◌∷◌, ◌++◌, length, take}
-use Rattle.lf_hub_clients.specs.Connections.{Connection}
+use Rattle.lf_hub_clients.specs.Connections.{Connection, is_open}
 use Rattle.lf_hub_clients.specs.Turns.{Turn}
 use Rattle.lf_hub.specs.Machine.{Hub, HubEvent, Opens, Comes, Answers, Closes, Syncs, Sends, Leaves, Frees, after, May, connection_at}
 use Rattle.lf_hub.specs.Laws.{Acts}
@@ -23,12 +23,13 @@ number_in slot h = (connection_at slot h.slots).number
 abbrev pub last_feed : Connection → List ℕ
 last_feed c = cond (nat_lt 0 (length c.begun)) (10 ∷ []) []
 
--- The calls that an event is. Bytes come by a read. If the client sends no more, the line that it has
--- begun is ended.
+-- The calls that an event is. Bytes come by a read. If an open client sends no more, the line that it
+-- has begun is ended.
 abbrev pub IsOnWire : Hub → HubEvent → List Call → Type 0
 IsOnWire h (Opens slot team access) calls = calls ≡ Accepted team access ∷ Numbered h.made ∷ []
 IsOnWire h (Comes slot bytes) calls = (calls ≡ Came (number_in slot h) bytes ∷ [])
-    ⊎ ((calls ≡ Ended (number_in slot h) ∷ []) × (bytes ≡ last_feed (connection_at slot h.slots)))
+    ⊎ ((calls ≡ Ended (number_in slot h) ∷ []) × (is_open (connection_at slot h.slots).stage ≡ true)
+    × (bytes ≡ last_feed (connection_at slot h.slots)))
 IsOnWire h (Answers slot turn) calls = calls ≡ []
 IsOnWire h (Closes slot s turn) calls = calls ≡ []
 IsOnWire h Syncs calls = calls ≡ []

@@ -1,9 +1,8 @@
 //! Answering lines.
 
-ghost use Rattle.std.specs.Prelude.{◌≡◌, [], OnErr, OnOk};
+ghost use Rattle.std.specs.Prelude.{OnErr, OnOk};
 ghost use Rattle.lf_hub_clients.specs.Turns.{IsAnswered};
-ghost use Rattle.lf_hub_serve.specs.Serving.{Breaks, Serves};
-ghost use Rattle.lf_hub_serve.specs.Servers.{service_of};
+ghost use Rattle.lf_hub_serve.specs.Servers.{BreaksOff, GoesOn};
 
 use crate::server::Server;
 use lf_hub::Progress;
@@ -51,10 +50,8 @@ fn was_taken(progress: Progress) -> bool {
 
 /// Takes one turn. Returns whether somebody was waiting.
 fn take_turn<F: Floor, W: Wire>(server: &mut Server<F, W>) -> Result<bool, AllocError>
-    ensures ok { OnOk result (Serves (IsAnswered F.answers F.shows)
-        (service_of W.calls server.old []) (service_of W.calls server.new [])) }
-    ensures err { OnErr result (Breaks (IsAnswered F.answers F.shows)
-        (service_of W.calls server.old []) (service_of W.calls server.new [])) }
+    ensures ok { OnOk result (GoesOn (IsAnswered F.answers F.shows) W.calls server.old server.new) }
+    ensures err { OnErr result (BreaksOff (IsAnswered F.answers F.shows) W.calls server.old server.new) }
 {
     let progress = server.core.answer(&mut server.floor, true)?;
     Ok(was_taken(progress))
@@ -66,10 +63,8 @@ pub(crate) fn answer_lines<F: Floor, W: Wire>(
     clock: &impl Clock,
     server: &mut Server<F, W>,
 ) -> Result<bool, AllocError>
-    ensures ok { OnOk result (Serves (IsAnswered F.answers F.shows)
-        (service_of W.calls server.old []) (service_of W.calls server.new [])) }
-    ensures err { OnErr result (Breaks (IsAnswered F.answers F.shows)
-        (service_of W.calls server.old []) (service_of W.calls server.new [])) }
+    ensures ok { OnOk result (GoesOn (IsAnswered F.answers F.shows) W.calls server.old server.new) }
+    ensures err { OnErr result (BreaksOff (IsAnswered F.answers F.shows) W.calls server.old server.new) }
 {
     let begin = now(clock);
     for count in 0..TURNS {

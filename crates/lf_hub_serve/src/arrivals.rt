@@ -1,11 +1,11 @@
 //! Clients that connect, and what they send.
 
-ghost use Rattle.std.specs.Prelude.{◌≡◌, ◌<◌, ◌≤◌, [], OnErr, OnOk, length};
+ghost use Rattle.std.specs.Prelude.{◌≡◌, ◌<◌, ◌≤◌, OnErr, OnOk, length};
 ghost use Rattle.lf_hub_clients.specs.Connections.{room_of};
 ghost use Rattle.lf_hub_clients.specs.Turns.{IsAnswered};
 ghost use Rattle.lf_hub.specs.Machine.{connection_at};
-ghost use Rattle.lf_hub_serve.specs.Serving.{Breaks, Serves, last_feed};
-ghost use Rattle.lf_hub_serve.specs.Servers.{service_of};
+ghost use Rattle.lf_hub_serve.specs.Serving.{last_feed};
+ghost use Rattle.lf_hub_serve.specs.Servers.{BreaksOff, GoesOn};
 
 use crate::departures::hang_up;
 use crate::server::Server;
@@ -18,10 +18,8 @@ const ARRIVALS: u32 = 64;
 
 /// Accepts a client that waits, and returns whether there was one.
 fn accept_client<F: Floor, W: Wire>(server: &mut Server<F, W>) -> Result<bool, AllocError>
-    ensures ok { OnOk result (Serves (IsAnswered F.answers F.shows)
-        (service_of W.calls server.old []) (service_of W.calls server.new [])) }
-    ensures err { OnErr result (Breaks (IsAnswered F.answers F.shows)
-        (service_of W.calls server.old []) (service_of W.calls server.new [])) }
+    ensures ok { OnOk result (GoesOn (IsAnswered F.answers F.shows) W.calls server.old server.new) }
+    ensures err { OnErr result (BreaksOff (IsAnswered F.answers F.shows) W.calls server.old server.new) }
 {
     let Some(arrival) = server.wire.accept() else {
         return Ok(false);
@@ -38,10 +36,8 @@ fn accept_client<F: Floor, W: Wire>(server: &mut Server<F, W>) -> Result<bool, A
 pub(crate) fn accept_clients<F: Floor, W: Wire>(
     server: &mut Server<F, W>,
 ) -> Result<bool, AllocError>
-    ensures ok { OnOk result (Serves (IsAnswered F.answers F.shows)
-        (service_of W.calls server.old []) (service_of W.calls server.new [])) }
-    ensures err { OnErr result (Breaks (IsAnswered F.answers F.shows)
-        (service_of W.calls server.old []) (service_of W.calls server.new [])) }
+    ensures ok { OnOk result (GoesOn (IsAnswered F.answers F.shows) W.calls server.old server.new) }
+    ensures err { OnErr result (BreaksOff (IsAnswered F.answers F.shows) W.calls server.old server.new) }
 {
     for count in 0..ARRIVALS {
         if !accept_client(server)? {
@@ -72,10 +68,8 @@ fn read_client<F: Floor, W: Wire>(
     requires last { last.now ≡ last_feed (connection_at slot server.old.core.hub.slots) }
     requires room { length buffer.old ≤ room_of (connection_at slot server.old.core.hub.slots) }
     requires some { 0 < length buffer.old }
-    ensures ok { OnOk result (Serves (IsAnswered F.answers F.shows)
-        (service_of W.calls server.old []) (service_of W.calls server.new [])) }
-    ensures err { OnErr result (Breaks (IsAnswered F.answers F.shows)
-        (service_of W.calls server.old []) (service_of W.calls server.new [])) }
+    ensures ok { OnOk result (GoesOn (IsAnswered F.answers F.shows) W.calls server.old server.new) }
+    ensures err { OnErr result (BreaksOff (IsAnswered F.answers F.shows) W.calls server.old server.new) }
 {
     match server.wire.read(number, buffer) {
         Incoming::Bytes { count } => {
@@ -98,10 +92,8 @@ fn read_slot<F: Floor, W: Wire>(
     slot: usize,
     buffer: &mut [u8],
 ) -> Result<Option<bool>, AllocError>
-    ensures ok { OnOk result (Serves (IsAnswered F.answers F.shows)
-        (service_of W.calls server.old []) (service_of W.calls server.new [])) }
-    ensures err { OnErr result (Breaks (IsAnswered F.answers F.shows)
-        (service_of W.calls server.old []) (service_of W.calls server.new [])) }
+    ensures ok { OnOk result (GoesOn (IsAnswered F.answers F.shows) W.calls server.old server.new) }
+    ensures err { OnErr result (BreaksOff (IsAnswered F.answers F.shows) W.calls server.old server.new) }
 {
     let Some(client) = server.core.client(slot) else {
         return Ok(None);
@@ -121,15 +113,13 @@ pub(crate) fn read_clients<F: Floor, W: Wire>(
     server: &mut Server<F, W>,
     buffer: &mut [u8],
 ) -> Result<bool, AllocError>
-    ensures ok { OnOk result (Serves (IsAnswered F.answers F.shows)
-        (service_of W.calls server.old []) (service_of W.calls server.new [])) }
-    ensures err { OnErr result (Breaks (IsAnswered F.answers F.shows)
-        (service_of W.calls server.old []) (service_of W.calls server.new [])) }
+    ensures ok { OnOk result (GoesOn (IsAnswered F.answers F.shows) W.calls server.old server.new) }
+    ensures err { OnErr result (BreaksOff (IsAnswered F.answers F.shows) W.calls server.old server.new) }
 {
     let mut is_busy = false;
     for slot in 0..usize::MAX {
         match read_slot(server, slot, buffer)? {
-            Some(has_come) => is_busy = is_busy || has_come,
+            Some(has_come) => is_busy |= has_come,
             None => return Ok(is_busy),
         }
     }

@@ -1,9 +1,8 @@
 //! Replies that are sent, and clients that leave.
 
-ghost use Rattle.std.specs.Prelude.{◌≡◌, [], OnErr, OnOk, false};
+ghost use Rattle.std.specs.Prelude.{◌≡◌, OnErr, OnOk};
 ghost use Rattle.lf_hub_clients.specs.Turns.{IsAnswered};
-ghost use Rattle.lf_hub_serve.specs.Serving.{Breaks, Serves};
-ghost use Rattle.lf_hub_serve.specs.Servers.{service_of};
+ghost use Rattle.lf_hub_serve.specs.Servers.{BreaksOff, GoesOn};
 
 use crate::server::Server;
 use lf_hub_clients::{Client, Floor, Stage};
@@ -15,10 +14,9 @@ pub(crate) fn hang_up<F: Floor, W: Wire>(
     server: &mut Server<F, W>,
     slot: usize,
 ) -> Result<bool, AllocError>
-    ensures ok { OnOk result (Serves (IsAnswered F.answers F.shows)
-        (service_of W.calls server.old []) (service_of W.calls server.new [])) }
-    ensures err { OnErr result (Breaks (IsAnswered F.answers F.shows)
-        (service_of W.calls server.old []) (service_of W.calls server.new [])) }
+    ensures ok { OnOk result (GoesOn (IsAnswered F.answers F.shows) W.calls server.old server.new) }
+    ensures records { server.new.core.hub.records ≡ server.old.core.hub.records }
+    ensures err { OnErr result (BreaksOff (IsAnswered F.answers F.shows) W.calls server.old server.new) }
 {
     if !server.core.is_live(slot) {
         return Ok(false);
@@ -37,10 +35,9 @@ fn send_client<F: Floor, W: Wire>(
     server: &mut Server<F, W>,
     slot: usize,
 ) -> Result<bool, AllocError>
-    ensures ok { OnOk result (Serves (IsAnswered F.answers F.shows)
-        (service_of W.calls server.old []) (service_of W.calls server.new [])) }
-    ensures err { OnErr result (Breaks (IsAnswered F.answers F.shows)
-        (service_of W.calls server.old []) (service_of W.calls server.new [])) }
+    ensures ok { OnOk result (GoesOn (IsAnswered F.answers F.shows) W.calls server.old server.new) }
+    ensures records { server.new.core.hub.records ≡ server.old.core.hub.records }
+    ensures err { OnErr result (BreaksOff (IsAnswered F.answers F.shows) W.calls server.old server.new) }
 {
     let Some(client) = server.core.client(slot) else {
         return Ok(false);
@@ -74,10 +71,9 @@ fn is_finished(client: &Client, has_ended: bool) -> bool {
 
 /// Has the client in a slot leave if nothing is left to do for it.
 fn end_client<F: Floor, W: Wire>(server: &mut Server<F, W>, slot: usize) -> Result<bool, AllocError>
-    ensures ok { OnOk result (Serves (IsAnswered F.answers F.shows)
-        (service_of W.calls server.old []) (service_of W.calls server.new [])) }
-    ensures err { OnErr result (Breaks (IsAnswered F.answers F.shows)
-        (service_of W.calls server.old []) (service_of W.calls server.new [])) }
+    ensures ok { OnOk result (GoesOn (IsAnswered F.answers F.shows) W.calls server.old server.new) }
+    ensures records { server.new.core.hub.records ≡ server.old.core.hub.records }
+    ensures err { OnErr result (BreaksOff (IsAnswered F.answers F.shows) W.calls server.old server.new) }
 {
     let Some(client) = server.core.client(slot) else {
         return Ok(false);
@@ -92,10 +88,9 @@ fn end_client<F: Floor, W: Wire>(server: &mut Server<F, W>, slot: usize) -> Resu
 /// Sends the client in a slot what may be sent, and ends it if nothing is left to do for it. Returns
 /// whether there is such a slot.
 fn serve_slot<F: Floor, W: Wire>(server: &mut Server<F, W>, slot: usize) -> Result<bool, AllocError>
-    ensures ok { OnOk result (Serves (IsAnswered F.answers F.shows)
-        (service_of W.calls server.old []) (service_of W.calls server.new [])) }
-    ensures err { OnErr result (Breaks (IsAnswered F.answers F.shows)
-        (service_of W.calls server.old []) (service_of W.calls server.new [])) }
+    ensures ok { OnOk result (GoesOn (IsAnswered F.answers F.shows) W.calls server.old server.new) }
+    ensures records { server.new.core.hub.records ≡ server.old.core.hub.records }
+    ensures err { OnErr result (BreaksOff (IsAnswered F.answers F.shows) W.calls server.old server.new) }
 {
     if server.core.client(slot).is_none() {
         return Ok(false);
@@ -106,16 +101,15 @@ fn serve_slot<F: Floor, W: Wire>(server: &mut Server<F, W>, slot: usize) -> Resu
 }
 
 /// Sends all clients what may be sent, and ends those for which nothing is left to do.
-pub(crate) fn send_replies<F: Floor, W: Wire>(server: &mut Server<F, W>) -> Result<bool, AllocError>
-    ensures ok { OnOk result (Serves (IsAnswered F.answers F.shows)
-        (service_of W.calls server.old []) (service_of W.calls server.new [])) }
-    ensures err { OnErr result (Breaks (IsAnswered F.answers F.shows)
-        (service_of W.calls server.old []) (service_of W.calls server.new [])) }
+pub(crate) fn send_replies<F: Floor, W: Wire>(server: &mut Server<F, W>) -> Result<(), AllocError>
+    ensures ok { OnOk result (GoesOn (IsAnswered F.answers F.shows) W.calls server.old server.new) }
+    ensures records { server.new.core.hub.records ≡ server.old.core.hub.records }
+    ensures err { OnErr result (BreaksOff (IsAnswered F.answers F.shows) W.calls server.old server.new) }
 {
     for slot in 0..usize::MAX {
         if !serve_slot(server, slot)? {
-            return Ok(true);
+            return Ok(());
         }
     }
-    Ok(true)
+    Ok(())
 }

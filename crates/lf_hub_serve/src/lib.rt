@@ -4,13 +4,17 @@
 //! reads what they have sent, answers their lines for at most four milliseconds, saves the records as one
 //! batch of the journal, and sends the replies. A reply leaves only after the sync of its batch.
 //!
-//! The contract of `serve_hub` says that there is a list of events of the machine of `lf_hub`, of which
-//! the laws of `lf_hub` hold:
+//! The contract of `serve_hub` says of a hub that begins without a client, whatever its clients send and
+//! whenever it ends:
 //!
-//! - The calls of the wire are these events: who has connected to which team's socket, which bytes came
-//!   from each client, and which were sent to it.
-//! - The journal has the records that the syncs among them have saved. A crash at any moment leaves these,
-//!   and all or none of the records since.
+//! - Each line of a client is answered for the team of its socket, and its lines are answered in order.
+//! - What a client was sent are the replies to its own lines that were answered before the last sync, in
+//!   order, or the first bytes of them.
+//! - The lines, one after the other, are a run of the floor.
+//! - A crash leaves the records of all changes accepted before the last sync, in order, and all or none of
+//!   those since.
+//! - It ends because the operator has stopped it, a call of the disk has failed, records do not fit into
+//!   a batch, or memory is lacking; or after 2 to the power of 64 rounds.
 //!
 //! Nothing says that a line is ever answered. Tests show that.
 //!
@@ -23,27 +27,24 @@
 //! - `answers`: answering lines
 //! - `saving`: records into the journal
 //! - `departures`: replies that are sent, and clients that leave
-//! - `orders`: the operator
+//! - `operator`: the operator's lines
 //! - `serving`: the rounds of a hub
-//! - `laws`: what holds of a hub that was served
 //!
 //! From `crates/lf_tests_hub/src/served.rt`:
 //!
 //! ```
-//! let ending = serve_hub(&rt, alloc, &mut server, &mut journal);
+//! let ending = serve_hub(alloc, &rt, &mut server, &mut journal);
 //! ```
 #![tactic(auto)]
 
 mod answers;
 mod arrivals;
 mod departures;
-mod laws;
-mod orders;
+mod operator;
 mod saving;
 mod server;
 mod serving;
 
-pub use laws::served_hubs_run;
 pub use server::{Ending, Failure, Server};
 pub use saving::{put_records, time_of};
 pub use serving::serve_hub;

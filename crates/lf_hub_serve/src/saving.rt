@@ -1,12 +1,12 @@
 //! Records into the journal.
 
-ghost use Rattle.std.specs.Prelude.{◌≡◌, ◌<◌, ◌^◌, ◌++◌, [], List, ℕ, IfOk, IsTrue, OnErr, OnOk, drop, length, slice_index, true};
+ghost use Rattle.std.specs.Prelude.{◌≡◌, ◌<◌, ◌≤◌, ◌+◌, ◌^◌, ◌++◌, [], List, ℕ, IfErr, IfOk, IsTrue, OnErr, OnOk, drop, length, slice_index, false, true};
 ghost use Rattle.lf_hub_clients.specs.Turns.{IsAnswered};
 ghost use Rattle.lf_journal_text.specs.Batches.{IsBatch};
 ghost use Rattle.lf_journal.specs.Journals.{IsSettled};
 ghost use Rattle.lf_hub_serve.specs.Saving.{KeepsRecords, records_of_file};
 ghost use Rattle.lf_hub_serve.specs.Serving.{Serves};
-ghost use Rattle.lf_hub_serve.specs.Servers.{service_of};
+ghost use Rattle.lf_hub_serve.specs.Servers.{HasFailed, service_of};
 
 use crate::server::{Failure, Server};
 use lf_hub_clients::Floor;
@@ -23,7 +23,7 @@ const LATEST: u64 = 9_999_999_999_999;
 /// The most bytes of the records of a batch.
 const MOST: usize = 99_999;
 
-/// The most bytes of a segment.
+/// The most bytes of a segment to which a batch is added.
 const SEGMENT: usize = 1 << 62;
 
 /// Returns the milliseconds since 1970, or 0 if the clock cannot be read.
@@ -44,7 +44,8 @@ pub fn time_of(clock: &impl Clock) -> u64
 
 /// Returns whether none of the bytes is zero.
 fn has_no_zero(bytes: &[u8]) -> bool
-    ensures { result ≡ true → (i : ℕ) → i < length bytes.now → 0 < slice_index bytes.now i }
+    ensures yes { result ≡ true → (i : ℕ) → i < length bytes.now → 0 < slice_index bytes.now i }
+    ensures no { result ≡ false → (i : ℕ) × (i < length bytes.now) × (slice_index bytes.now i ≡ 0) }
 {
     for byte in bytes {
         if *byte == 0 {
@@ -62,6 +63,7 @@ fn make_batch(alloc: Global, time: u64, records: &[u8]) -> Result<Vec<u8>, Alloc
     requires nonzero { (i : ℕ) → i < length records.now → 0 < slice_index records.now i }
     ensures batch { IfOk result (λ batch. IsBatch batch.items) }
     ensures records { IfOk result (λ batch. drop 38 batch.items ≡ records.now) }
+    ensures size { IfOk result (λ batch. length batch.items ≤ 38 + length records.now) }
 {
     let batch = batch_of(alloc, time, records)?;
     Ok(batch)
@@ -69,8 +71,8 @@ fn make_batch(alloc: Global, time: u64, records: &[u8]) -> Result<Vec<u8>, Alloc
 
 /// Adds records to the journal as one batch. They are on the disk at `Ok`.
 ///
-/// `Err(UnfitRecords)` if they are too long for a batch, or one of them has a zero byte; then nothing
-/// was written. `Err(Disk)` if the disk fails.
+/// `Err(UnfitRecords)` if they are too long for a batch, if one of their bytes is zero, or if the segment
+/// is too long; then nothing was written. `Err(Disk)` if the disk fails.
 pub fn put_records<D: Disk>(
     alloc: Global,
     time: u64,
@@ -90,6 +92,9 @@ pub fn put_records<D: Disk>(
     ensures any_moment { IsTrue (D.Disk.is_clean journal.new.disk) → (c : List ℕ) → D.Disk.may_leave journal.new.disk c
         → KeepsRecords (records_of_file (D.Disk.seen journal.old.disk)) records.now c }
     ensures usable { OnOk result (IsTrue (D.Disk.is_usable journal.new.disk)) }
+    ensures cause { IfErr result (λ failure. HasFailed failure (D.Disk.faults journal.old.disk)
+        (D.Disk.faults journal.new.disk) records.now journal.new.end) }
+    ensures calm { OnOk result (D.Disk.faults journal.new.disk ≡ D.Disk.faults journal.old.disk) }
     ensures clean { IsTrue (D.Disk.is_clean journal.new.disk) → IsTrue (D.Disk.is_clean journal.old.disk) }
 {
     if records.len() > MOST {
@@ -102,9 +107,6 @@ pub fn put_records<D: Disk>(
         return Err(Failure::UnfitRecords);
     }
     let batch = make_batch(alloc, time, records)?;
-    if batch.len() > SEGMENT {
-        return Err(Failure::UnfitRecords);
-    }
     match journal.put(&batch) {
         Ok(()) => Ok(()),
         Err(error) => Err(Failure::Disk(error)),
@@ -130,6 +132,9 @@ fn write_records<D: Disk>(
     ensures any_moment { IsTrue (D.Disk.is_clean journal.new.disk) → (c : List ℕ) → D.Disk.may_leave journal.new.disk c
         → KeepsRecords (records_of_file (D.Disk.seen journal.old.disk)) records.now c }
     ensures usable { OnOk result (IsTrue (D.Disk.is_usable journal.new.disk)) }
+    ensures cause { IfErr result (λ failure. HasFailed failure (D.Disk.faults journal.old.disk)
+        (D.Disk.faults journal.new.disk) records.now journal.new.end) }
+    ensures calm { OnOk result (D.Disk.faults journal.new.disk ≡ D.Disk.faults journal.old.disk) }
     ensures clean { IsTrue (D.Disk.is_clean journal.new.disk) → IsTrue (D.Disk.is_clean journal.old.disk) }
 {
     if records.is_empty() {
@@ -152,6 +157,7 @@ pub(crate) fn save<F: Floor, W: Wire, D: Disk>(
         → IsSettled D.Disk.seen D.Disk.may_leave journal.old.disk journal.old.end journal.old.len }
     ensures ok { OnOk result (Serves (IsAnswered F.answers F.shows)
         (service_of W.calls server.old []) (service_of W.calls server.new server.old.core.hub.records)) }
+    ensures empty { OnOk result (server.new.core.hub.records ≡ []) }
     ensures err { OnErr result (service_of W.calls server.new [] ≡ service_of W.calls server.old []) }
     ensures settled { OnOk result (IsTrue (D.Disk.is_clean journal.new.disk)
         → IsSettled D.Disk.seen D.Disk.may_leave journal.new.disk journal.new.end journal.new.len) }
@@ -161,6 +167,9 @@ pub(crate) fn save<F: Floor, W: Wire, D: Disk>(
     ensures any_moment { IsTrue (D.Disk.is_clean journal.new.disk) → (c : List ℕ) → D.Disk.may_leave journal.new.disk c
         → KeepsRecords (records_of_file (D.Disk.seen journal.old.disk)) server.old.core.hub.records c }
     ensures usable { OnOk result (IsTrue (D.Disk.is_usable journal.new.disk)) }
+    ensures cause { IfErr result (λ failure. HasFailed failure (D.Disk.faults journal.old.disk)
+        (D.Disk.faults journal.new.disk) server.old.core.hub.records journal.new.end) }
+    ensures calm { OnOk result (D.Disk.faults journal.new.disk ≡ D.Disk.faults journal.old.disk) }
     ensures clean { IsTrue (D.Disk.is_clean journal.new.disk) → IsTrue (D.Disk.is_clean journal.old.disk) }
 {
     write_records(alloc, time_of(clock), journal, server.core.records())?;

@@ -20,8 +20,8 @@ pub struct Server<F, W> {
 pub enum Failure {
     /// The disk. No reply to the last lines was sent, and the journal is to be opened again.
     Disk(io::Error),
-    /// The last records have a zero byte or are too long for a batch. They were not written, and no
-    /// reply to their lines was sent.
+    /// The last records have a zero byte or are too long for a batch, or the segment is too long. They
+    /// were not written, and no reply to their lines was sent.
     UnfitRecords,
     /// An allocation.
     OutOfMemory,

@@ -12,7 +12,7 @@
 //! - Each method of `Sockets` makes the call that it notes. They are to be read.
 //! - The file mode of a socket decides who may connect to it.
 //!
-//! Used by no crate yet.
+//! Used by `lf_hub_serve` and `lf_tests_hub`.
 //!
 //! Modules, in reading order:
 //!

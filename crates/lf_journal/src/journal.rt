@@ -37,6 +37,7 @@ impl<D: Disk> Journal<D> {
         ensures usable { OnOk result (IsTrue (D.Disk.is_usable self.new.disk)) }
         ensures cause { OnErr result (MoreFaults (D.Disk.faults self.old.disk) (D.Disk.faults self.new.disk)) }
         ensures clean { IsTrue (D.Disk.is_clean self.new.disk) → IsTrue (D.Disk.is_clean self.old.disk) }
+        ensures calm { OnOk result (D.Disk.faults self.new.disk ≡ D.Disk.faults self.old.disk) }
     {
         while self.len <= self.end + batch.len() {
             self.grow()?;
@@ -65,6 +66,7 @@ impl<D: Disk> Journal<D> {
         ensures usable { OnOk result (IsTrue (D.Disk.is_usable self.new.disk)) }
         ensures cause { OnErr result (MoreFaults (D.Disk.faults self.old.disk) (D.Disk.faults self.new.disk)) }
         ensures clean { IsTrue (D.Disk.is_clean self.new.disk) → IsTrue (D.Disk.is_clean self.old.disk) }
+        ensures calm { OnOk result (D.Disk.faults self.new.disk ≡ D.Disk.faults self.old.disk) }
     {
         self.disk.write_at(self.end, batch)?;
         self.disk.sync()?;
@@ -89,6 +91,7 @@ impl<D: Disk> Journal<D> {
         ensures usable { OnOk result (IsTrue (D.Disk.is_usable self.new.disk)) }
         ensures cause { OnErr result (MoreFaults (D.Disk.faults self.old.disk) (D.Disk.faults self.new.disk)) }
         ensures clean { IsTrue (D.Disk.is_clean self.new.disk) → IsTrue (D.Disk.is_clean self.old.disk) }
+        ensures calm { OnOk result (D.Disk.faults self.new.disk ≡ D.Disk.faults self.old.disk) }
     {
         self.disk.write_at(self.end + 1, &batch[1..])?;
         self.disk.sync()?;

@@ -14,7 +14,7 @@
 //!
 //! All this holds if the disk is clean: none of its answers was wrong. No code can test this.
 //!
-//! Used by `lf_tests_journal`.
+//! Used by `lf_hub_serve` and `lf_tests_journal`.
 //!
 //! Modules, in reading order:
 //!

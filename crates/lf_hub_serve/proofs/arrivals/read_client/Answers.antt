@@ -25,7 +25,7 @@ returns-in_ok-comes-in-End-clause-ok g c =
     ended_whole (IsAnswered g.F.Floor.answers g.F.Floor.shows) hub c.comes-in-End.new.self.hub c.args.server.now.floor
     (g.W.Wire.calls c.args.server.now.wire) (g.W.Wire.calls c.read.new.self) c.args.slot c.args.number c.in_ok-comes-in-End.field-0 c.args.last.now
     c.requires.slot (feed_fits here c.args.last.now (room_of here) c.requires.last (omega (arith, c.requires.some, c.requires.room)))
-    c.in_ok-comes-in-End.ensures.taken c.in_ok-comes-in-End.ensures.after c.requires.number c.requires.last c.in-End.ensures.calls
+    c.in_ok-comes-in-End.ensures.taken c.in_ok-comes-in-End.ensures.after c.requires.number (omega (arith, c.requires.some, c.requires.room)) c.requires.last c.in-End.ensures.calls
 
 pub returns-in_err-comes-in-Bytes-clause-err : goal.returns-in_err-comes-in-Bytes-clause-err
 returns-in_err-comes-in-Bytes-clause-err g c =

@@ -20,10 +20,6 @@ pub returns-in_err-batch-clause-any_moment : goal.returns-in_err-batch-clause-an
 returns-in_err-batch-clause-any_moment g c clean f left =
     settled_keeps g.D.Disk.seen g.D.Disk.may_leave c.args.journal.now.disk c.args.journal.now.end c.args.journal.now.len c.args.records.now f (c.requires.settled clean) left
 
-pub returns-then-len-gt-SEGMENT-clause-any_moment : goal.returns-then-len-gt-SEGMENT-clause-any_moment
-returns-then-len-gt-SEGMENT-clause-any_moment g c clean f left =
-    settled_keeps g.D.Disk.seen g.D.Disk.may_leave c.args.journal.now.disk c.args.journal.now.end c.args.journal.now.len c.args.records.now f (c.requires.settled clean) left
-
 pub returns-in-Ok-clause-any_moment : goal.returns-in-Ok-clause-any_moment
 returns-in-Ok-clause-any_moment g c clean f left =
     let payload : drop 38 c.deref.result.now ≡ c.args.records.now = ap (λ (b : List ℕ). drop 38 b) c.deref.ensures.value ∙ c.in_ok-batch.ensures.records in

@@ -1,105 +1,35 @@
-use Rattle.std.proofs.Common.{◌≡◌, List, ℕ, [], ◌++◌, refl, sym, ap, subst, ◌∙◌, append_assoc, append-nil}
+use Rattle.std.proofs.Common.{◌≡◌, List, ℕ, [], ◌++◌, refl, sym, ap, subst, ◌∙◌}
 use Rattle.lf_hub_clients.specs.Turns.{IsAnswered}
+use Rattle.lf_hub.specs.Machine.{Hub}
 use Rattle.lf_hub_serve.specs.Saving.{KeepsRecords, records_of_file}
-use Rattle.lf_hub_serve.specs.Serving.{Service, Serves}
+use Rattle.lf_hub_serve.specs.Served.{records_of}
 use Rattle.lf_hub_serve.specs.Servers.{service_of}
-use Rattle.lf_hub_serve.proofs.Services.{serves_same, serves_then, serves_on, breaks_whole}
-use Rattle.lf_hub_serve.proofs.Endings.{serves_fails, fails_on}
+use Rattle.lf_hub_serve.proofs.Services.{serves_same, breaks_whole}
 use Rattle.lf_hub_serve.proofs.Records.{settled_keeps, keeps_nil}
+use Rattle.lf_hub_serve.proofs.Runs.{hub_served}
 use Rattle.lf_hub_serve.proofs.serving.serve_hub.Goals as goal
 
-pub loop-init : goal.loop-init
-loop-init g c =
-    let server = c.args.server.now in
-    record {
-      served = ([], serves_same (IsAnswered g.F.Floor.answers g.F.Floor.shows) (service_of g.W.Wire.calls server []) (service_of g.W.Wire.calls server []) refl,
-      λ clean. sym (append-nil (records_of_file (g.D.Disk.seen c.args.journal.now.disk))));
-      usable = c.requires.usable;
-      settled = c.requires.settled;
-      clean = λ clean. clean;
-    }
-
-pub loop-preserved : goal.loop-preserved
-loop-preserved g c =
-    let takes = IsAnswered g.F.Floor.answers g.F.Floor.shows in
-    let calls = g.W.Wire.calls in
-    let before = c.loop.invariant.served in
-    let more = c.in-Ok-is_busy.ensures.ok in
-    let now = c.loop.server in
-    let new = c.serve_round.new.server in
-    let last = c.take_order.new.server in
-    let saved = before.0 ++ more.0 in
-    let start = service_of calls c.args.server.now [] in
-    let same : service_of calls last [] ≡ service_of calls new [] = c.take_order.ensures.same in
-    let round : Serves takes start (service_of calls new saved) =
-    serves_then takes start (service_of calls now before.0) (service_of calls new saved) before.1
-    (serves_on takes before.0 more.0 now.core.hub new.core.hub now.floor new.floor (calls now.wire) (calls new.wire) more.1) in
-    record {
-      served = (saved, subst (λ (s : Service g.row.F.Denot). Serves takes start s) (sym (ap (λ (s : Service g.row.F.Denot). record s { saved = saved }) same)) round,
-      λ clean. more.2 clean ∙ ap (λ (r : List ℕ). r ++ more.0) (before.2 (c.serve_round.ensures.clean clean))
-          ∙ append_assoc (records_of_file (g.D.Disk.seen c.args.journal.now.disk)) before.0 more.0);
-      usable = c.in-Ok-is_busy.ensures.usable;
-      settled = c.in-Ok-is_busy.ensures.settled;
-      clean = λ clean. c.loop.invariant.clean (c.serve_round.ensures.clean clean);
-    }
-
--- what was saved before a round, and in it
-pub returns-then-take_order-clause-served : goal.returns-then-take_order-clause-served
-returns-then-take_order-clause-served g c =
-    let takes = IsAnswered g.F.Floor.answers g.F.Floor.shows in
-    let calls = g.W.Wire.calls in
-    let before = c.loop.invariant.served in
-    let more = c.in-Ok-is_busy.ensures.ok in
-    let now = c.loop.server in
-    let new = c.serve_round.new.server in
-    let last = c.take_order.new.server in
-    let journal = c.serve_round.new.journal in
-    let saved = before.0 ++ more.0 in
-    let start = service_of calls c.args.server.now [] in
-    let same : service_of calls last [] ≡ service_of calls new [] = c.take_order.ensures.same in
-    let round : Serves takes start (service_of calls new saved) =
-    serves_then takes start (service_of calls now before.0) (service_of calls new saved) before.1
-    (serves_on takes before.0 more.0 now.core.hub new.core.hub now.floor new.floor (calls now.wire) (calls new.wire) more.1) in
-    (saved, subst (λ (s : Service g.row.F.Denot). Serves takes start s) (sym (ap (λ (s : Service g.row.F.Denot). record s { saved = saved }) same)) round,
-    λ clean f left. subst (λ (r : List ℕ). KeepsRecords r last.core.hub.records f)
-        (more.2 clean ∙ ap (λ (r : List ℕ). r ++ more.0) (before.2 (c.serve_round.ensures.clean clean))
-        ∙ append_assoc (records_of_file (g.D.Disk.seen c.args.journal.now.disk)) before.0 more.0)
-        (settled_keeps g.D.Disk.seen g.D.Disk.may_leave journal.disk journal.end journal.len last.core.hub.records f (c.in-Ok-is_busy.ensures.settled clean) left))
-
-pub returns-in-Err-clause-served : goal.returns-in-Err-clause-served
-returns-in-Err-clause-served g c =
-    let takes = IsAnswered g.F.Floor.answers g.F.Floor.shows in
-    let calls = g.W.Wire.calls in
-    let before = c.loop.invariant.served in
-    let more = c.in-Err.ensures.err in
-    let now = c.loop.server in
-    let new = c.serve_round.new.server in
-    let saved = before.0 ++ more.0 in
-    (saved,
-    serves_fails takes c.in-Err.failure (service_of calls c.args.server.now []) (service_of calls now before.0) (service_of calls new saved) before.1
-        (fails_on takes c.in-Err.failure before.0 more.0 now.core.hub new.core.hub now.floor new.floor (calls now.wire) (calls new.wire) more.1),
-    λ clean f left. subst (λ (r : List ℕ). KeepsRecords r new.core.hub.records f)
-        (ap (λ (r : List ℕ). r ++ more.0) (before.2 (c.serve_round.ensures.clean clean))
-        ∙ append_assoc (records_of_file (g.D.Disk.seen c.args.journal.now.disk)) before.0 more.0)
-        (more.2 clean f left))
-
 pub returns-clause-served : goal.returns-clause-served
-returns-clause-served g c =
-    let journal = c.loop.journal in
-    let before = c.loop.invariant.served in
-    (before.0, before.1,
-    λ clean f left. subst (λ (r : List ℕ). KeepsRecords r c.loop.server.core.hub.records f) (before.2 clean)
-        (settled_keeps g.D.Disk.seen g.D.Disk.may_leave journal.disk journal.end journal.len c.loop.server.core.hub.records f (c.loop.invariant.settled clean) left))
+returns-clause-served g c is =
+    let takes = IsAnswered g.F.Floor.answers g.F.Floor.shows in
+    let calls = g.W.Wire.calls in
+    let rounds = c.serve_rounds.ensures.served in
+    let before = records_of_file (g.D.Disk.seen c.args.journal.now.disk) in
+    let so = hub_served takes calls c.args.server.now c.serve_rounds.new.server rounds.0 is rounds.1 in
+    (so.safe, so.held, so.served, λ stopped. sym so.unsaved ∙ c.serve_rounds.ensures.saved stopped,
+    λ clean f left. subst (λ (r : List ℕ). KeepsRecords (before ++ r) (records_of so.held) f) so.saved
+        (subst (λ (r : List ℕ). KeepsRecords (before ++ rounds.0) r f) so.unsaved (rounds.2 clean f left)))
 
 pub returns-in_default-clause-served : goal.returns-in_default-clause-served
-returns-in_default-clause-served g c =
+returns-in_default-clause-served g c is =
     let takes = IsAnswered g.F.Floor.answers g.F.Floor.shows in
+    let calls = g.W.Wire.calls in
     let server = c.args.server.now in
     let journal = c.args.journal.now in
-    let start = service_of g.W.Wire.calls server [] in
-    ([], breaks_whole takes start start (serves_same takes start start refl),
-    λ clean f left. keeps_nil (records_of_file (g.D.Disk.seen journal.disk)) server.core.hub.records f
-        (settled_keeps g.D.Disk.seen g.D.Disk.may_leave journal.disk journal.end journal.len server.core.hub.records f (c.requires.settled clean) left))
-
-pub returns-then-take_order-clause-stopped : goal.returns-then-take_order-clause-stopped
-returns-then-take_order-clause-stopped g c is = c.take_order.ensures.stopped c.if-take_order.true
+    let start = service_of calls server [] in
+    let before = records_of_file (g.D.Disk.seen journal.disk) in
+    let so = hub_served takes calls server server [] is (breaks_whole takes start start (serves_same takes start start refl)) in
+    (so.safe, so.held, so.served, λ stopped. sym so.unsaved ∙ ap (λ (h : Hub). h.records) is.hub,
+    λ clean f left. subst (λ (r : List ℕ). KeepsRecords (before ++ r) (records_of so.held) f) so.saved
+        (keeps_nil before (records_of so.held) f
+        (settled_keeps g.D.Disk.seen g.D.Disk.may_leave journal.disk journal.end journal.len (records_of so.held) f (c.requires.settled clean) left)))

@@ -16,8 +16,9 @@ fn is_stop(line: &[u8]) -> bool
     }
 }
 
-/// Takes the operator's next line and replies to it. Returns whether he wants the hub to stop.
-pub(crate) fn take_order<F, W: Wire>(server: &mut Server<F, W>, line: &mut Vec<u8>) -> bool
+/// Takes the operator's next line into the buffer and replies to it. Returns whether he wants the hub to
+/// stop.
+pub(crate) fn answer_operator<F, W: Wire>(server: &mut Server<F, W>, line: &mut Vec<u8>) -> bool
     ensures same { service_of W.calls server.new [] ≡ service_of W.calls server.old [] }
     ensures stopped { result ≡ true → IsStopped (W.orders server.new.wire) }
 {

@@ -2,7 +2,7 @@ use Rattle.std.proofs.Common.{◌≡◌, ℕ, List, [], ◌∷◌, ◌++◌, tru
 use Rattle.std.proofs.lemmas.Grind.{common_steps}
 use Rattle.std.specs.Prelude.{codes}
 use Rattle.lf_hub_wire.specs.Calls.{Call, Ordered, Told}
-use Rattle.lf_hub_serve.proofs.orders.take_order.Goals as goal
+use Rattle.lf_hub_serve.proofs.operator.answer_operator.Goals as goal
 
 pub returns-then-is_stop-clause-stopped : goal.returns-then-is_stop-clause-stopped
 returns-then-is_stop-clause-stopped g c is =
