@@ -6,7 +6,7 @@ use Rattle.lf_cli.specs.declared.parse.Task.{Task}
 use Rattle.lf_cli.specs.declared.parse.Task.TheVariants.{Demo, Replay, Serve, Check, Describe, Improve, Repair, Wirelength}
 use Rattle.lf_cli.specs.Command.{Job, ReadsNone, RepairPaths, repair_paths, as_job, check, demo, describe, improve, repair, replay, serve, wirelength}
 use Rattle.lf_task_faults.specs.declared.faults.Fault.{Fault}
-use Rattle.lf_task_faults.specs.declared.faults.Fault.TheVariants.{Refused, File, RefusedState, RefusedJournal, NoTeam, RefusedTeam, TeamDiffers, SliceDiffers, ReadFault, WriteFault, TooManyLines, OutOfMemory, Output, Bind, Accept, NotWritten, SetupOutOfMemory, OutputOutOfMemory}
+use Rattle.lf_task_faults.specs.declared.faults.Fault.TheVariants.{Refused, File, RefusedState, RefusedJournal, NoTeam, RefusedTeam, TeamDiffers, SliceDiffers, ReadFault, WriteFault, TooManyLines, OutOfMemory, Output, Bind, Accept, Hub, NotWritten, SetupOutOfMemory, OutputOutOfMemory}
 use Rattle.lf_task_designs.specs.Designs.{ReadsFile}
 use Rattle.lf_task_faults.specs.Faults.{status_of}
 use Rattle.lf_app.specs.Exits.{IsJobOutcome}
@@ -40,6 +40,7 @@ failing OutOfMemory status is = inr is
 failing Output status is = inr is
 failing (Bind port why) status is = inr is
 failing Accept status is = inr is
+failing (Hub folder failure) status is = inr is
 failing (NotWritten its_kind path why) status is = inr is
 failing SetupOutOfMemory status is = inl is
 failing OutputOutOfMemory status is = inl is

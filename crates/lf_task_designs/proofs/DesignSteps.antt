@@ -12,7 +12,7 @@ use Rattle.lf_def.specs.Document.{Document, document_of}
 use Rattle.lf_floorplan.specs.declared.limits.Limits.{Limits}
 use Rattle.lf_frame.specs.Conflicts.{Conflict, no_fence}
 use Rattle.lf_task_faults.specs.declared.faults.Fault.{Fault}
-use Rattle.lf_task_faults.specs.declared.faults.Fault.TheVariants.{Refused, File, RefusedState, RefusedJournal, NoTeam, RefusedTeam, TeamDiffers, SliceDiffers, ReadFault, WriteFault, TooManyLines, OutOfMemory, Output, Bind, Accept, NotWritten, SetupOutOfMemory, OutputOutOfMemory}
+use Rattle.lf_task_faults.specs.declared.faults.Fault.TheVariants.{Refused, File, RefusedState, RefusedJournal, NoTeam, RefusedTeam, TeamDiffers, SliceDiffers, ReadFault, WriteFault, TooManyLines, OutOfMemory, Output, Bind, Accept, Hub, NotWritten, SetupOutOfMemory, OutputOutOfMemory}
 use Rattle.lf_task_faults.specs.declared.faults.TextKind.{TextKind}
 use Rattle.lf_task_faults.specs.declared.faults.TextKind.TheVariants.{Lef, Def}
 use Rattle.lf_task_faults.specs.Refusals.{IsReportedConflict}
@@ -36,6 +36,7 @@ refused_as kind path text P Q OutOfMemory is gives = absurd is
 refused_as kind path text P Q Output is gives = absurd is
 refused_as kind path text P Q (Bind port why) is gives = absurd is
 refused_as kind path text P Q Accept is gives = absurd is
+refused_as kind path text P Q (Hub folder failure) is gives = absurd is
 refused_as kind path text P Q (NotWritten its_kind its_path why) is gives = absurd is
 refused_as kind path text P Q SetupOutOfMemory is gives = absurd is
 refused_as kind path text P Q OutputOutOfMemory is gives = absurd is

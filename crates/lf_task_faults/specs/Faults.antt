@@ -15,7 +15,7 @@ use Rattle.lf_journal_text.specs.declared.refusal.RefusalKind.TheVariants as jou
 use Rattle.lf_task_faults.specs.declared.faults.TaskExit.{TaskExit}
 use Rattle.lf_task_faults.specs.declared.faults.Fault.{Fault}
 use Rattle.lf_task_faults.specs.declared.faults.Fault.TheVariants.{Refused, File, RefusedState, RefusedJournal, NoTeam, RefusedTeam, ReadFault, WriteFault, TooManyLines, OutOfMemory}
-use Rattle.lf_task_faults.specs.declared.faults.Fault.TheVariants.{Output, Bind, Accept, NotWritten, SetupOutOfMemory, OutputOutOfMemory, TeamDiffers, SliceDiffers}
+use Rattle.lf_task_faults.specs.declared.faults.Fault.TheVariants.{Output, Bind, Accept, Hub, NotWritten, SetupOutOfMemory, OutputOutOfMemory, TeamDiffers, SliceDiffers}
 use Rattle.lf_task_faults.specs.declared.faults.TextFile.{TextFile}
 use Rattle.lf_task_faults.specs.declared.faults.TextKind.{TextKind}
 use Rattle.lf_task_faults.specs.declared.faults.TextKind.TheVariants.{Lef, Def, State, Journal}
@@ -25,6 +25,8 @@ use Rattle.lf_task_faults.specs.declared.faults.TeamRefusal.{TeamRefusal}
 use Rattle.lf_task_faults.specs.declared.faults.TeamRefusal.TheVariants as unserved
 use Rattle.lf_task_faults.specs.declared.faults.BindFailure.{BindFailure}
 use Rattle.lf_task_faults.specs.declared.faults.BindFailure.TheVariants as unbound
+use Rattle.lf_task_faults.specs.declared.faults.HubFailure.{HubFailure}
+use Rattle.lf_task_faults.specs.declared.faults.HubFailure.TheVariants as hub
 use Rattle.lf_task_faults.specs.declared.hints.Compression.{Compression}
 use Rattle.lf_task_faults.specs.declared.hints.Compression.TheVariants as compression
 use Rattle.lf_task_faults.specs.declared.hints.Remark.{Remark}
@@ -148,6 +150,7 @@ fault_text OutOfMemory = codes "OutOfMemory"
 fault_text Output = codes "Output"
 fault_text (Bind port why) = codes "Bind"
 fault_text Accept = codes "Accept"
+fault_text (Hub folder why) = codes "Hub"
 fault_text (NotWritten kind path why) = codes "File"
 fault_text SetupOutOfMemory = codes "24 OutOfMemory"
 fault_text OutputOutOfMemory = codes "24 OutOfMemory"
@@ -312,6 +315,11 @@ text_refusal_words file refusal =
     if is_memory refusal.number then []
     else codes "lefence: " ++ file_words file ++ refused_words file refusal refusal.hint ++ 10 ∷ []
 
+-- Which part of a hub fails, and its folder.
+abbrev pub hub_part_words : List ℕ → HubFailure → List ℕ
+hub_part_words folder (hub.Journal why) = codes "the journal in " ++ shown_bytes folder
+hub_part_words folder (hub.Socket why) = codes "a socket in " ++ shown_bytes folder
+
 -- The file, path, port or team at fault.
 abbrev pub subject_words : Fault → List ℕ
 subject_words (File file why) = file_words file
@@ -321,6 +329,7 @@ subject_words (RefusedTeam name why) = team_words name.items
 subject_words (TeamDiffers path team) = state_team_words path.now team.items
 subject_words SliceDiffers = codes "the slice"
 subject_words (Bind port why) = port_text port
+subject_words (Hub folder why) = hub_part_words folder.now why
 subject_words _ = []
 
 -- Why a team cannot be repaired.
@@ -338,6 +347,7 @@ complaint_words (RefusedTeam name why) = team_complaint why
 complaint_words (TeamDiffers path team) = codes " differs from that of an earlier state file, and both have changed it"
 complaint_words SliceDiffers = codes " has another frame or other cells of the team than the design"
 complaint_words (Bind port why) = codes " is not available"
+complaint_words (Hub folder why) = codes " fails"
 complaint_words _ = []
 
 -- Why a file cannot be read.
@@ -362,11 +372,17 @@ unwritable_words unwritable.ReadOnly = codes ": its file system is read-only"
 unwritable_words unwritable.Full = codes ": the disk is full"
 unwritable_words unwritable.Other = []
 
+-- Why a part of a hub fails.
+abbrev pub hub_failure_words : HubFailure → List ℕ
+hub_failure_words (hub.Journal why) = unwritable_words why
+hub_failure_words (hub.Socket why) = unbound_words why
+
 -- The reason of the fault, if the system reports it.
 abbrev pub reason_words : Fault → List ℕ
 reason_words (File file why) = unreadable_words why
 reason_words (NotWritten kind path why) = unwritable_words why
 reason_words (Bind port why) = unbound_words why
+reason_words (Hub folder why) = hub_failure_words why
 reason_words _ = []
 
 -- The line of the subject, what is wrong with it, and the reason.
@@ -387,6 +403,7 @@ second_line (RefusedTeam name why) = complaint_line (RefusedTeam name why)
 second_line (TeamDiffers path team) = complaint_line (TeamDiffers path team)
 second_line SliceDiffers = complaint_line SliceDiffers
 second_line (Bind port why) = complaint_line (Bind port why)
+second_line (Hub folder why) = complaint_line (Hub folder why)
 second_line _ = []
 
 -- Everything that is printed about a fault.

@@ -4,12 +4,12 @@ ghost use Rattle.std.specs.Prelude.{◌≡◌, ◌<◌, ◌++◌, OnErr, OnOk, t
 ghost use Rattle.std.specs.Io.KnownBytes.{Appends};
 ghost use Rattle.std.specs.Char.{digit_char};
 ghost use Rattle.lf_task_faults.specs.Faults.{beside_words, bytes_words, complaint_line, complaint_words, compressed_words, earlier_words, fence_words, file_words, first_words};
-ghost use Rattle.lf_task_faults.specs.Faults.{hint_words, is_memory, conflict_words, number_words, output_kind_words, output_words, overlapped_fence_words, port_text, reason_words, refused_words, remark_words, text_refusal_words};
+ghost use Rattle.lf_task_faults.specs.Faults.{hint_words, hub_failure_words, hub_part_words, is_memory, conflict_words, number_words, output_kind_words, output_words, overlapped_fence_words, port_text, reason_words, refused_words, remark_words, text_refusal_words};
 ghost use Rattle.lf_task_faults.specs.Faults.{second_line, shown_bytes, shown_byte, shown_line, fence_line_words, journal_line, state_line, state_team_words, subject_words, team_complaint, team_words};
 ghost use Rattle.lf_task_faults.specs.Faults.{claiming_fences_words, unbound_words, unpack_words, unreadable_words, unwritable_words};
 
 use crate::faults::{
-    BindFailure, Fault, OutputKind, TeamRefusal, TextFile, TextKind, put_byte_number,
+    BindFailure, Fault, HubFailure, OutputKind, TeamRefusal, TextFile, TextKind, put_byte_number,
 };
 use crate::hints::{Compression, Hint, Remark};
 use crate::read_failure::ReadFailureKind;
@@ -434,6 +434,19 @@ fn put_state_team<W: Sink>(sink: &mut W, path: &str, team: &[u8]) -> Result<(), 
     put_shown(sink, team)
 }
 
+/// Writes which part of a hub fails, and its folder.
+fn put_hub_part<W: Sink>(sink: &mut W, folder: &str, why: HubFailure) -> Result<(), DeviceFault>
+    ensures ok { OnOk result (Appends (W.contents sink.old) (W.contents sink.new) (hub_part_words folder.now why)) }
+    ensures failed { OnErr result (W.has_failed sink.new ≡ true) }
+    ensures held { W.holds sink.new ≡ W.holds sink.old }
+{
+    match why {
+        HubFailure::Journal(_) => send(sink, b"the journal in ")?,
+        HubFailure::Socket(_) => send(sink, b"a socket in ")?,
+    }
+    put_shown(sink, folder.as_bytes())
+}
+
 /// Writes the file, path, port or team at fault.
 fn put_subject<W: Sink>(sink: &mut W, fault: &Fault<'_>) -> Result<(), DeviceFault>
     ensures ok { OnOk result (Appends (W.contents sink.old) (W.contents sink.new) (subject_words fault.now)) }
@@ -448,6 +461,7 @@ fn put_subject<W: Sink>(sink: &mut W, fault: &Fault<'_>) -> Result<(), DeviceFau
         Fault::TeamDiffers(path, team) => put_state_team(sink, path, team.as_slice()),
         Fault::SliceDiffers => send(sink, b"the slice"),
         Fault::Bind(port, _) => put_port(sink, *port),
+        Fault::Hub(folder, why) => put_hub_part(sink, folder, *why),
         _ => Ok(()),
     }
 }
@@ -477,6 +491,7 @@ fn complaint_of(fault: &Fault<'_>) -> &'static [u8]
         }
         Fault::SliceDiffers => b" has another frame or other cells of the team than the design",
         Fault::Bind(_, _) => b" is not available",
+        Fault::Hub(_, _) => b" fails",
         _ => b"",
     }
 }
@@ -518,6 +533,16 @@ fn unbound_words(why: BindFailure) -> &'static [u8]
     }
 }
 
+/// Returns the reason why a part of a hub fails.
+fn hub_failure_words(why: HubFailure) -> &'static [u8]
+    ensures { result.now ≡ hub_failure_words why }
+{
+    match why {
+        HubFailure::Journal(why) => unwritable_words(why),
+        HubFailure::Socket(why) => unbound_words(why),
+    }
+}
+
 /// Returns the reason of the fault, if the system reports it.
 fn reason_of(fault: &Fault<'_>) -> &'static [u8]
     ensures { result.now ≡ reason_words fault.now }
@@ -526,6 +551,7 @@ fn reason_of(fault: &Fault<'_>) -> &'static [u8]
         Fault::File(_, why) => unreadable_words(*why),
         Fault::NotWritten(_, _, why) => unwritable_words(*why),
         Fault::Bind(_, why) => unbound_words(*why),
+        Fault::Hub(_, why) => hub_failure_words(*why),
         _ => b"",
     }
 }
@@ -560,6 +586,7 @@ pub(crate) fn write_detail_line<W: Sink>(sink: &mut W, fault: &Fault<'_>) -> Res
         Fault::TeamDiffers(_, _) => put_complaint(sink, fault),
         Fault::SliceDiffers => put_complaint(sink, fault),
         Fault::Bind(_, _) => put_complaint(sink, fault),
+        Fault::Hub(_, _) => put_complaint(sink, fault),
         _ => Ok(()),
     }
 }

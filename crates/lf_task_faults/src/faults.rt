@@ -53,6 +53,15 @@ pub enum OutputKind {
     Slice,
 }
 
+/// What of a hub has failed.
+#[derive(Clone, Copy, Debug, PartialEq, Eq)]
+pub enum HubFailure {
+    /// Its journal in this folder cannot be read or written.
+    Journal(WriteFailureKind),
+    /// A socket in this folder cannot be made.
+    Socket(BindFailure),
+}
+
 /// Why the program cannot listen on a port, if the system reports it.
 #[derive(Clone, Copy, Debug, PartialEq, Eq)]
 pub enum BindFailure {
@@ -113,6 +122,8 @@ pub enum Fault<'a> {
     Bind(u16, BindFailure),
     /// A connection could not be accepted.
     Accept,
+    /// The journal or a socket of a hub in this folder failed.
+    Hub(&'a str, HubFailure),
     /// The file of this kind and path could not be written.
     NotWritten(OutputKind, &'a str, WriteFailureKind),
     /// An allocation failed before the first line, for a report, or for a repair.
@@ -325,6 +336,7 @@ fn put_fault<W: Sink>(sink: &mut W, fault: &Fault<'_>) -> Result<(), DeviceFault
         Fault::Output => send(sink, b"Output"),
         Fault::Bind(_, _) => send(sink, b"Bind"),
         Fault::Accept => send(sink, b"Accept"),
+        Fault::Hub(_, _) => send(sink, b"Hub"),
         Fault::NotWritten(_, _, _) => send(sink, b"File"),
         Fault::SetupOutOfMemory => send(sink, b"24 OutOfMemory"),
         Fault::OutputOutOfMemory => send(sink, b"24 OutOfMemory"),

@@ -33,7 +33,7 @@ mod read_failure;
 mod text_refusal;
 
 pub use faults::{
-    BindFailure, Fault, OutputKind, TaskExit, TeamRefusal, TextFile, TextKind, exit_with,
+    BindFailure, Fault, HubFailure, OutputKind, TaskExit, TeamRefusal, TextFile, TextKind, exit_with,
     report_fault, status_of, unread_fault, write_fault,
 };
 pub use hints::{Compression, Hint, Remark};

@@ -11,7 +11,7 @@ use Rattle.lf_floor_model.specs.Designs.{initial_floor, initial_teams}
 use Rattle.lf_floor_model.specs.States.{FloorState}
 use Rattle.lf_floor.specs.Saved.{ShareDesign, fixed_cells, fixed_part}
 use Rattle.lf_task_faults.specs.declared.faults.Fault.{Fault}
-use Rattle.lf_task_faults.specs.declared.faults.Fault.TheVariants.{Refused, File, RefusedState, RefusedJournal, NoTeam, RefusedTeam, TeamDiffers, SliceDiffers, ReadFault, WriteFault, TooManyLines, OutOfMemory, Output, Bind, Accept, NotWritten, SetupOutOfMemory, OutputOutOfMemory}
+use Rattle.lf_task_faults.specs.declared.faults.Fault.TheVariants.{Refused, File, RefusedState, RefusedJournal, NoTeam, RefusedTeam, TeamDiffers, SliceDiffers, ReadFault, WriteFault, TooManyLines, OutOfMemory, Output, Bind, Accept, Hub, NotWritten, SetupOutOfMemory, OutputOutOfMemory}
 use Rattle.lf_task_faults.specs.declared.faults.TextKind.TheVariants.{State}
 use Rattle.lf_task_designs.specs.Designs.{IsUnread, ReadsFile}
 use Rattle.lf_task_files.specs.HeldTexts.{gives_text}
@@ -133,6 +133,7 @@ held_read text path OutOfMemory is = absurd is
 held_read text path Output is = absurd is
 held_read text path (Bind port why) is = absurd is
 held_read text path Accept is = absurd is
+held_read text path (Hub folder failure) is = absurd is
 held_read text path (NotWritten its_kind its_path its_why) is = absurd is
 held_read text path SetupOutOfMemory is = refl
 held_read text path OutputOutOfMemory is = absurd is

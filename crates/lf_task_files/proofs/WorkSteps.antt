@@ -7,7 +7,7 @@ use Rattle.lf_def.specs.Document.{Document, document_of}
 use Rattle.lf_floorplan.specs.declared.limits.Limits.{Limits}
 use Rattle.lf_floorplan.specs.declared.loaded.Loaded.{Loaded}
 use Rattle.lf_task_faults.specs.declared.faults.Fault.{Fault}
-use Rattle.lf_task_faults.specs.declared.faults.Fault.TheVariants.{Refused, File, RefusedState, RefusedJournal, NoTeam, RefusedTeam, TeamDiffers, SliceDiffers, ReadFault, WriteFault, TooManyLines, OutOfMemory, Output, Bind, Accept, NotWritten, SetupOutOfMemory, OutputOutOfMemory}
+use Rattle.lf_task_faults.specs.declared.faults.Fault.TheVariants.{Refused, File, RefusedState, RefusedJournal, NoTeam, RefusedTeam, TeamDiffers, SliceDiffers, ReadFault, WriteFault, TooManyLines, OutOfMemory, Output, Bind, Accept, Hub, NotWritten, SetupOutOfMemory, OutputOutOfMemory}
 use Rattle.lf_task_faults.specs.declared.faults.TextKind.{TextKind}
 use Rattle.lf_task_faults.specs.declared.faults.TextKind.TheVariants.{Lef, Def, State}
 use Rattle.lf_task_designs.specs.Designs.{RefusalCause, ReadsFile, IsDefRefusal, IsDesignFault, IsDesignOf, IsFileFault, IsLefRefusal, IsLibraryFault, IsLibraryOf}
@@ -91,6 +91,7 @@ early_blames kept reader writer export service sound OutOfMemory keeps sounds ea
 early_blames kept reader writer export service sound Output keeps sounds early = absurd early
 early_blames kept reader writer export service sound (Bind port why) keeps sounds early = absurd early
 early_blames kept reader writer export service sound Accept keeps sounds early = absurd early
+early_blames kept reader writer export service sound (Hub folder failure) keeps sounds early = absurd early
 early_blames kept reader writer export service sound (NotWritten its_kind path why) keeps sounds early = absurd early
 early_blames kept reader writer export service sound SetupOutOfMemory keeps sounds early =
     record { early = λ _. keeps; reading = λ same. absurd (subst IsEarly same tt); writing = λ of. absurd of; exporting = λ of. absurd of; serving = λ of. absurd of; sparing = λ _. sounds }
@@ -114,6 +115,7 @@ export_blames kept reader writer export service sound OutOfMemory before now is 
 export_blames kept reader writer export service sound Output before now is fails sounds = absurd is
 export_blames kept reader writer export service sound (Bind port why) before now is fails sounds = absurd is
 export_blames kept reader writer export service sound Accept before now is fails sounds = absurd is
+export_blames kept reader writer export service sound (Hub folder failure) before now is fails sounds = absurd is
 export_blames kept reader writer export service sound (NotWritten its_kind path why) before now is fails sounds =
     record { early = λ of. absurd of; reading = λ same. absurd (subst IsPath same tt); writing = λ of. absurd of; exporting = λ _. fails is; serving = λ of. absurd of; sparing = λ of. absurd of }
 export_blames kept reader writer export service sound SetupOutOfMemory before now is fails sounds = absurd is
@@ -137,6 +139,7 @@ refused_early kind path text why OutOfMemory is = absurd is
 refused_early kind path text why Output is = absurd is
 refused_early kind path text why (Bind port cause) is = absurd is
 refused_early kind path text why Accept is = absurd is
+refused_early kind path text why (Hub folder failure) is = absurd is
 refused_early kind path text why (NotWritten its_kind its_path its_why) is = absurd is
 refused_early kind path text why SetupOutOfMemory is = absurd is
 refused_early kind path text why OutputOutOfMemory is = absurd is
@@ -158,6 +161,7 @@ unread_early gives kind path OutOfMemory is = absurd is
 unread_early gives kind path Output is = absurd is
 unread_early gives kind path (Bind port why) is = absurd is
 unread_early gives kind path Accept is = absurd is
+unread_early gives kind path (Hub folder failure) is = absurd is
 unread_early gives kind path (NotWritten its_kind its_path its_why) is = absurd is
 unread_early gives kind path SetupOutOfMemory is = tt
 unread_early gives kind path OutputOutOfMemory is = absurd is
@@ -239,6 +243,7 @@ refused_state_early path text why OutOfMemory is = absurd is
 refused_state_early path text why Output is = absurd is
 refused_state_early path text why (Bind port cause) is = absurd is
 refused_state_early path text why Accept is = absurd is
+refused_state_early path text why (Hub folder failure) is = absurd is
 refused_state_early path text why (NotWritten its_kind its_path its_why) is = absurd is
 refused_state_early path text why SetupOutOfMemory is = tt
 refused_state_early path text why OutputOutOfMemory is = absurd is

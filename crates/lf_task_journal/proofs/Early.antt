@@ -5,7 +5,7 @@ use Rattle.lf_floorplan.specs.declared.loaded.Loaded.{Loaded}
 use Rattle.lf_floor_model.specs.States.{FloorState}
 use Rattle.lf_journal_text.specs.declared.refusal.Refusal.{Refusal}
 use Rattle.lf_task_faults.specs.declared.faults.Fault.{Fault}
-use Rattle.lf_task_faults.specs.declared.faults.Fault.TheVariants.{Refused, File, RefusedState, RefusedJournal, NoTeam, RefusedTeam, TeamDiffers, SliceDiffers, ReadFault, WriteFault, TooManyLines, OutOfMemory, Output, Bind, Accept, NotWritten, SetupOutOfMemory, OutputOutOfMemory}
+use Rattle.lf_task_faults.specs.declared.faults.Fault.TheVariants.{Refused, File, RefusedState, RefusedJournal, NoTeam, RefusedTeam, TeamDiffers, SliceDiffers, ReadFault, WriteFault, TooManyLines, OutOfMemory, Output, Bind, Accept, Hub, NotWritten, SetupOutOfMemory, OutputOutOfMemory}
 use Rattle.lf_task_faults.specs.declared.faults.TextKind.TheVariants.{Lef, Def, State, Journal}
 use Rattle.lf_task_faults.specs.Faults.{IsEarly}
 use Rattle.lf_task_designs.specs.Designs.{ReadsFile}
@@ -43,6 +43,7 @@ refusal_early path refusal OutOfMemory is = absurd is
 refusal_early path refusal Output is = absurd is
 refusal_early path refusal (Bind port why) is = absurd is
 refusal_early path refusal Accept is = absurd is
+refusal_early path refusal (Hub folder failure) is = absurd is
 refusal_early path refusal (NotWritten its_kind its_path its_why) is = absurd is
 refusal_early path refusal SetupOutOfMemory is = absurd is
 refusal_early path refusal OutputOutOfMemory is = absurd is

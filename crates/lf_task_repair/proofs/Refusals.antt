@@ -4,7 +4,7 @@ use Rattle.lf_cli.specs.declared.parse.RepairOptions.{RepairOptions}
 use Rattle.lf_floorplan.specs.declared.frame.Frame.{Frame}
 use Rattle.lf_floor_model.specs.States.{FloorState}
 use Rattle.lf_task_faults.specs.declared.faults.Fault.{Fault}
-use Rattle.lf_task_faults.specs.declared.faults.Fault.TheVariants.{Refused, File, RefusedState, RefusedJournal, NoTeam, RefusedTeam, TeamDiffers, SliceDiffers, ReadFault, WriteFault, TooManyLines, OutOfMemory, Output, Bind, Accept, NotWritten, SetupOutOfMemory, OutputOutOfMemory}
+use Rattle.lf_task_faults.specs.declared.faults.Fault.TheVariants.{Refused, File, RefusedState, RefusedJournal, NoTeam, RefusedTeam, TeamDiffers, SliceDiffers, ReadFault, WriteFault, TooManyLines, OutOfMemory, Output, Bind, Accept, Hub, NotWritten, SetupOutOfMemory, OutputOutOfMemory}
 use Rattle.lf_task_faults.specs.Faults.{IsEarly}
 use Rattle.lf_task_designs.specs.Designs.{ReadsFile}
 use Rattle.lf_task_files.proofs.WorkSteps.{floor_early}
@@ -32,6 +32,7 @@ refusal_early team OutOfMemory is = absurd is
 refusal_early team Output is = absurd is
 refusal_early team (Bind port why) is = absurd is
 refusal_early team Accept is = absurd is
+refusal_early team (Hub folder failure) is = absurd is
 refusal_early team (NotWritten its_kind path why) is = absurd is
 refusal_early team SetupOutOfMemory is = absurd is
 refusal_early team OutputOutOfMemory is = absurd is

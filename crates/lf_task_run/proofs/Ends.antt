@@ -3,7 +3,7 @@ use Rattle.std.proofs.Common.{◌≡◌, inl, inr, ℕ, List, true, false, Optio
 use Rattle.std.specs.Prelude.{◌||◌}
 use Rattle.lf_floorplan.specs.declared.frame.Frame.{Frame}
 use Rattle.lf_task_faults.specs.declared.faults.Fault.{Fault}
-use Rattle.lf_task_faults.specs.declared.faults.Fault.TheVariants.{Refused, File, RefusedState, RefusedJournal, NoTeam, RefusedTeam, TeamDiffers, SliceDiffers, ReadFault, WriteFault, TooManyLines, OutOfMemory, Output, Bind, Accept, NotWritten, SetupOutOfMemory, OutputOutOfMemory}
+use Rattle.lf_task_faults.specs.declared.faults.Fault.TheVariants.{Refused, File, RefusedState, RefusedJournal, NoTeam, RefusedTeam, TeamDiffers, SliceDiffers, ReadFault, WriteFault, TooManyLines, OutOfMemory, Output, Bind, Accept, Hub, NotWritten, SetupOutOfMemory, OutputOutOfMemory}
 use Rattle.lf_task_faults.specs.Faults.{BlamesDevices, IsEarly, IsOfWriter}
 use Rattle.lf_task_faults.specs.declared.faults.OutputKind.{OutputKind}
 use Rattle.lf_task_files.specs.Faults.{IsOutputFault}
@@ -55,6 +55,7 @@ unknown_early f teams OutOfMemory is = absurd is
 unknown_early f teams Output is = absurd is
 unknown_early f teams (Bind port why) is = absurd is
 unknown_early f teams Accept is = absurd is
+unknown_early f teams (Hub folder failure) is = absurd is
 unknown_early f teams (NotWritten its_kind path why) is = absurd is
 unknown_early f teams SetupOutOfMemory is = absurd is
 unknown_early f teams OutputOutOfMemory is = absurd is
