@@ -339,4 +339,4 @@ pub hub_served : {F W : Type 0} (takes : F → Turn → F → Type 0) (calls : W
 hub_served takes calls old new saved is b =
     served_so takes old.floor (service_of calls new saved) (subst (λ (s : Service F). Breaks takes s (service_of calls new saved))
     (ap (λ (h : Hub). record { hub = h; floor = old.floor; calls = calls old.wire; saved = [] }) is.hub
-    ∙ ap (λ (l : List Call). record { hub = start.hub; floor = old.floor; calls = l; saved = [] }) is.calls) b)
+    ∙ ap (λ (l : List Call). record { hub = start.hub; floor = old.floor; calls = l; saved = [] }) is.wire) b)

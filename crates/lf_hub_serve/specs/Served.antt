@@ -13,7 +13,7 @@ use Rattle.lf_hub_serve.specs.declared.server.Server.{Server}
 -- A hub has no client yet, and its wire was not used.
 pub record IsNew {F W : Type 0} (calls : W → List Call) (server : Server F W) : Type 0 where
   pub hub : server.core.hub ≡ start.hub
-  pub calls : calls server.wire ≡ []
+  pub wire : calls server.wire ≡ []
 
 -- The numbers below `count`, in order.
 abbrev pub numbers_below : ℕ → List ℕ
