@@ -14,7 +14,7 @@ mod closed_pipe;
 
 use crate::closed_pipe::{MessageWriter, WatchedWriter};
 use lf_app::{
-    Environment, FromRead, FsInputFiles, FsOutputFiles, NetListener, TimedProgress, ToWrite,
+    Environment, FromRead, FsInputFiles, FsOutputFiles, NetListener, ProcessHost, TimedProgress, ToWrite,
     UsageFault, run_program,
 };
 use std::alloc::AllocError;
@@ -89,52 +89,6 @@ fn pause(rt: &HostRuntime) -> Duration {
     Duration::from_secs(PAUSE)
 }
 
-/// Serves a hub: `lefence hub DEF LEF.. SOCKETS JOURNAL`.
-fn hub(rt: &HostRuntime, words: &[String]) -> ExitCode {
-    if words.len() < 6 {
-        return ExitCode::from(2);
-    }
-    let mut lefs = Vec::new(rt.alloc());
-    for word in &words[3..words.len() - 2] {
-        if lefs.push(word.as_str()).is_err() {
-            return ExitCode::from(1);
-        }
-    }
-    let texts = FsInputFiles::new(rt);
-    let host = lf_task_hub::ProcessHost::new(rt);
-    let mut error = rt.stderr();
-    let mut notes = ToWrite::new(&mut error);
-    let inputs = lf_task_hub::DesignInput {
-        def: word_at(words, 2),
-        lefs: lefs.as_slice(),
-        state: None,
-        limits: lf_task_hub::limits_for(lf_cli::Slots::standard()),
-    };
-    let folders = lf_task_hub::HubFolders {
-        sockets: word_at(words, words.len() - 2),
-        journal: word_at(words, words.len() - 1),
-    };
-    match lf_task_hub::serve_hub_files(rt.alloc(), &texts, &host, &mut notes, inputs, folders) {
-        Ok(status) => ExitCode::from(status),
-        Err(lf_task_hub::HubFault::Disk(error)) => {
-            let _ = eprintln!(rt; "lefence: journal {error}");
-            ExitCode::from(3)
-        }
-        Err(lf_task_hub::HubFault::Sockets(error)) => {
-            let _ = eprintln!(rt; "lefence: sockets {error}");
-            ExitCode::from(3)
-        }
-        Err(lf_task_hub::HubFault::Failed(_)) => {
-            let _ = eprintln!(rt; "lefence: failed");
-            ExitCode::from(3)
-        }
-        Err(lf_task_hub::HubFault::Task(_)) => {
-            let _ = eprintln!(rt; "lefence: task fault");
-            ExitCode::from(1)
-        }
-    }
-}
-
 fn main(rt: HostRuntime) -> ExitCode {
     let words = words_of(&rt);
     let is_silent = match &words {
@@ -144,11 +98,6 @@ fn main(rt: HostRuntime) -> ExitCode {
         }
         Err(_) => false,
     };
-    if let Ok(words) = &words {
-        if word_at(words, 1) == "hub" {
-            return hub(&rt, words);
-        }
-    }
     let closed = Cell::new(false);
     let mut reader = rt.reader();
     let mut writer = WatchedWriter {
@@ -168,6 +117,7 @@ fn main(rt: HostRuntime) -> ExitCode {
         ToWrite::new(&mut writer),
         ToWrite::new(&mut faults),
         TimedProgress::new(rt.alloc(), &rt, pause(&rt), rt.stderr()),
+        ProcessHost::new(&rt),
     );
     ExitCode::from(run_program(rt.alloc(), &mut environment, &words))
 }

@@ -5,7 +5,8 @@ ghost use Rattle.std.specs.Prelude.{◌≡◌, false};
 
 use lf_app::{
     Acceptor, BindFailure, ClientReader, ClientWriter, Connection, Environment, InputFiles,
-    NoProgress, PortListener, ReadFailure, ServiceConfig, Slots, Task, perform_over, single_chunk,
+    NoHub, NoProgress, PortListener, ReadFailure, ServiceConfig, Slots, Task, perform_over,
+    single_chunk,
 };
 use lf_io::{DeviceFault, FromRead, OutputFiles, TextSource, ToWrite, WriteFailure};
 use lf_units::Sequence;
@@ -120,6 +121,7 @@ fn exported_by<R: Read, W: Write, F: Write>(
         ToWrite::new(writer),
         ToWrite::new(faults),
         NoProgress,
+        NoHub,
     );
     perform_over(texts.alloc, &mut environment, task);
     environment.exports.text

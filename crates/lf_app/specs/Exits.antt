@@ -6,7 +6,7 @@ use Rattle.lf_lef.specs.declared.built_in.TheConstants.{DEMO_LEF}
 use Rattle.lf_def.specs.declared.built_in.TheConstants.{DEMO_DEF}
 use Rattle.lf_floor_model.specs.States.{FloorState}
 use Rattle.lf_floor_model.specs.Designs.{initial_floor}
-use Rattle.lf_cli.specs.Command.{Job, demo, replay, serve, check, describe, wirelength, repair, improve}
+use Rattle.lf_cli.specs.Command.{Job, demo, replay, serve, hub, check, describe, wirelength, repair, improve}
 use Rattle.lf_task_faults.specs.declared.faults.Fault.{Fault}
 use Rattle.lf_task_faults.specs.declared.faults.TaskExit.{TaskExit}
 use Rattle.lf_task_designs.specs.Checks.{IsNotReported}
@@ -18,6 +18,7 @@ use Rattle.lf_task_files.specs.Exits.{IsOpenDescribed, IsOpenUndescribed, IsRepo
 use Rattle.lf_task_serve.specs.Exits.{AnswersInput, EndsWithFault, IsJobStop, IsLinesFault, IsOffered, IsServiceFault, IsUndone, IsServedDesign, Streams}
 use Rattle.lf_task_wires.specs.Wirelengths.{IsMeasured, IsNotMeasured}
 use Rattle.lf_task_run.specs.Tasks.{IsTaskDone, IsTaskNotDone}
+use Rattle.lf_task_hub.specs.Hubs.{IsHubFault, IsHubServed}
 use Rattle.lf_task_repair.specs.Repairs.{repair_means}
 use Rattle.lf_task_improve.specs.Works.{improve_means}
 use Rattle.lf_app.specs.Requests.{requests_of, request_at}
@@ -40,6 +41,8 @@ IsOutcomeWithin limits gives (serve def lefs state slots port connections save e
     IsServedDesign limits gives def lefs state None save export
     (λ begin floor io. IsOffered begin floor connections io.before io.after io.old_accepted io.new_accepted) io
     × (status ≡ 0)
+IsOutcomeWithin limits gives (hub def lefs begin slots teams sockets journal) io status =
+    IsHubServed limits gives def lefs begin × (status ≡ 0)
 IsOutcomeWithin limits gives (check def lefs state slots committed) io status =
     (seen : Loaded) × IsViewedDesignOf committed limits gives def lefs state seen
     × IsReported seen io.before io.after status
@@ -77,6 +80,8 @@ IsJobFaultWithin limits gives (serve def lefs state slots port connections save 
     IsUndone limits gives def lefs state None save export
     (λ begin fault io. IsServiceFault port connections begin fault io.before io.after io.old_accepted io.new_accepted)
     (λ begin floor io. IsOffered begin floor connections io.before io.after io.old_accepted io.new_accepted) fault io
+IsJobFaultWithin limits gives (hub def lefs begin slots teams sockets journal) fault io =
+    IsHubFault limits gives def lefs begin fault
 IsJobFaultWithin limits gives (check def lefs state slots committed) fault io =
     IsJobStop (IsFloorFault limits gives def lefs state) (IsViewedDesignOf committed limits gives def lefs state)
     (λ seen fault io. IsNotReported seen io.before io.after fault) fault io

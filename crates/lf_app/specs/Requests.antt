@@ -1,7 +1,7 @@
 -- What jobs request of files and limits.
 use Rattle.std.specs.Prelude.{◌≡◌, Bool, true, false, List, [], None, Option, map, ℕ}
 use Rattle.lf_floorplan.specs.declared.limits.Limits.{Limits}
-use Rattle.lf_cli.specs.Command.{Job, RepairPaths, check, demo, describe, improve, repair, replay, serve, wirelength}
+use Rattle.lf_cli.specs.Command.{Job, RepairPaths, check, demo, describe, hub, improve, repair, replay, serve, wirelength}
 use Rattle.lf_task_files.specs.declared.inputs.DesignInput.{DesignInput}
 use Rattle.lf_task_files.specs.declared.outputs.OutputPaths.{OutputPaths}
 use Rattle.lf_task_files.specs.Inputs.{path_of}
@@ -48,6 +48,7 @@ requests_of (replay def lefs state slots journal lines save export) =
     record (on_files def lefs state slots (save_and_export save export)) { reads_input = true; lines = lines }
 requests_of (serve def lefs state slots port connections save export) =
     on_files def lefs state slots (save_and_export save export)
+requests_of (hub def lefs begin slots teams sockets journal) = on_files def lefs begin slots (save_and_export None None)
 requests_of (repair def lefs state slots teams options files) =
     record (on_files def lefs state slots files) { shows_progress = true }
 requests_of (improve def lefs slots teams within options files) =

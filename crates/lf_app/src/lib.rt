@@ -70,11 +70,12 @@ mod program;
 mod tasks;
 
 pub use lf_cli::{ImproveOptions, LegalCells, RepairFiles, RepairOptions, Slots, Task, UsageFault};
+pub use lf_hub_host::{HubHost, NoHub, ProcessHost};
 pub use lf_io::{FromRead, FsOutputFiles, ToWrite};
 pub use lf_server::{Acceptor, ClientReader, ClientWriter, Connection, ServiceConfig};
 pub use lf_task_designs::{FsInputFiles, InputFiles, single_chunk};
 pub use lf_task_faults::{
-    BindFailure, Compression, Fault, FenceLine, Hint, OutputKind, ReadFailure, ReadFailureKind,
+    BindFailure, Compression, Fault, FenceLine, Hint, HubFailure, OutputKind, ReadFailure, ReadFailureKind,
     Remark, StateRefusal, TaskExit, TextFile, TextKind, TextRefusal, status_of, write_fault,
 };
 pub use lf_task_run::{NoProgress, Progress, TimedProgress};

@@ -21,11 +21,13 @@ ghost use Rattle.lf_app.specs.Requests.{AreOutputsOf, IsInputAt, IsInputOf, requ
 use lf_cli::{ImproveOptions, RepairFiles, RepairOptions, Slots, Task};
 use lf_def::DEMO_DEF;
 use lf_frame::Limits;
+use lf_hub_host::NoHub;
 use lf_io::{FromRead, FsOutputFiles, Sink, Source, ToWrite};
 use lf_lef::DEMO_LEF;
 use lf_task_designs::{FsInputFiles, limits_for, load_texts};
 use lf_task_faults::{Fault, TaskExit, exit_with, report_fault};
 use lf_task_files::{DesignInput, OutputPaths, check, describe_files};
+use lf_task_hub::{HubInput, serve_hub_files};
 use lf_task_improve::Improve;
 use lf_task_repair::Repair;
 use lf_task_run::{Job, NoProgress, run_task};
@@ -127,6 +129,12 @@ fn input_of<'a>(task: &'a Task<'_>, limits: Limits) -> DesignInput<'a>
             state,
             ..
         } => input_at(*def, lefs.as_slice(), *state, limits),
+        Task::Hub {
+            def,
+            lefs,
+            begin,
+            ..
+        } => input_at(*def, lefs.as_slice(), *begin, limits),
         Task::Improve { def, lefs, .. } => input_at(*def, lefs.as_slice(), None, limits),
     }
 }
@@ -161,6 +169,24 @@ fn job_of<'a>(input: DesignInput<'a>, teams: &'a [&'a str], files: RepairFiles<'
         input,
         teams,
         files,
+    }
+}
+
+/// Returns the hub of these teams of the design of the files, with these folders.
+fn hub_at<'a>(
+    design: DesignInput<'a>,
+    teams: &'a [&'a str],
+    sockets: &'a str,
+    journal: &'a str,
+) -> HubInput<'a>
+    ensures design { result.design ≡ design.entry }
+    ensures teams { result.teams.now ≡ teams.now }
+{
+    HubInput {
+        design,
+        teams,
+        sockets,
+        journal,
     }
 }
 
@@ -239,6 +265,15 @@ fn outcome_within<'a, D: Devices>(
             };
             serve_files(alloc, environment, inputs, None, lines, outputs_of(task))
         }
+        Task::Hub {
+            teams,
+            sockets,
+            journal,
+            ..
+        } => {
+            let input = hub_at(inputs, teams.as_slice(), sockets, journal);
+            serve_hub_files(alloc, &environment.texts, &environment.hub, input)
+        }
         Task::Check { committed, .. } => {
             check(
                 alloc,
@@ -316,6 +351,7 @@ fn slots_of(task: &Task<'_>) -> Slots
         Task::Wirelength { slots, .. } => *slots,
         Task::Replay { slots, .. } => *slots,
         Task::Serve { slots, .. } => *slots,
+        Task::Hub { slots, .. } => *slots,
         Task::Demo => Slots::standard(),
         Task::Repair { slots, .. } => *slots,
         Task::Improve { slots, .. } => *slots,
@@ -483,6 +519,7 @@ fn perform_with<T: Files + Net + AllocGlobal, R: Source + Drop, W: Sink + Drop, 
         writer,
         faults,
         NoProgress,
+        NoHub,
     );
     let exit = perform_over(rt.alloc(), &mut environment, task);
     let Environment {

@@ -20,7 +20,7 @@ use Rattle.lf_cli.specs.declared.parse.RepairOptions.{RepairOptions}
 use Rattle.lf_cli.specs.declared.parse.Task.{Task}
 use Rattle.lf_cli.specs.declared.parse.Task.TheVariants as task
 use Rattle.lf_cli.specs.declared.subcommand.Subcommand.{Subcommand}
-use Rattle.lf_cli.specs.declared.subcommand.Subcommand.TheVariants.{Demo, Check, Describe, Wirelength, Replay, Serve, Repair, Improve}
+use Rattle.lf_cli.specs.declared.subcommand.Subcommand.TheVariants.{Demo, Check, Describe, Wirelength, Replay, Serve, Hub, Repair, Improve}
 
 -- ---- the subcommands
 
@@ -32,12 +32,13 @@ subcommand_word Describe = codes "describe"
 subcommand_word Wirelength = codes "wirelength"
 subcommand_word Replay = codes "replay"
 subcommand_word Serve = codes "serve"
+subcommand_word Hub = codes "hub"
 subcommand_word Repair = codes "repair"
 subcommand_word Improve = codes "improve"
 
 -- All subcommands, in the order in which they are listed.
 abbrev pub subcommands : List Subcommand
-subcommands = Demo ∷ Check ∷ Describe ∷ Wirelength ∷ Replay ∷ Serve ∷ Repair ∷ Improve ∷ []
+subcommands = Demo ∷ Check ∷ Describe ∷ Wirelength ∷ Replay ∷ Serve ∷ Hub ∷ Repair ∷ Improve ∷ []
 
 -- The subcommand of this word.
 abbrev pub subcommand_named : Text → Option Subcommand
@@ -103,6 +104,9 @@ line_of Replay = design_line (subcommand_word Replay)
 line_of Serve = design_line (subcommand_word Serve)
     (needed (number_rule (codes "port") 65535) ∷ needed (number_rule (codes "connections") 1000000)
     ∷ text_rule (codes "state") ∷ slots_rule ∷ text_rule (codes "save") ∷ text_rule (codes "export") ∷ [])
+line_of Hub = design_line (subcommand_word Hub)
+    (needed (text_rule (codes "sockets")) ∷ needed (text_rule (codes "journal")) ∷ repeated_rule (codes "team")
+    ∷ text_rule (codes "begin") ∷ slots_rule ∷ [])
 line_of Repair = design_line (subcommand_word Repair)
     (repeated_rule (codes "team") ∷ flag_rule (codes "keep") ∷ flag_rule (codes "all")
     ∷ effort_rule ∷ number_rule (codes "within") 65535 ∷ flag_rule (codes "balance-heights")
@@ -146,6 +150,9 @@ pub data Job : Type 0 where
   replay : Text → List Text → Option Text → ℕ → Option Text → ℕ → Option Text → Option Text → Job
   -- The port and the number of connections; the paths of the state and of the DEF file to write.
   serve : Text → List Text → Option Text → ℕ → ℕ → ℕ → Option Text → Option Text → Job
+  -- The saved state is that with which the journal begins. The teams, or all if the list is empty; the folders of the
+  -- sockets and of the journal.
+  hub : Text → List Text → Option Text → ℕ → List Text → Text → Text → Job
   -- The teams, or all if the list is empty; how places are searched for; the paths of the files to
   -- write.
   repair : Text → List Text → Option Text → ℕ → List Text → RepairOptions → RepairPaths → Job
@@ -271,6 +278,11 @@ service_of rows =
     (option_and_then (number_in 1 1000000) (first_of (codes "connections") rows)))
     (option_and_then (number_in 1 65535) (first_of (codes "port") rows))
 
+-- The folders of the sockets and of the journal of a hub. Both are required.
+abbrev pub folders_of : List Row → Option (Text × Text)
+folders_of rows = option_and_then (λ sockets. option_map (λ journal. (sockets, journal)) (first_of (codes "journal") rows))
+    (first_of (codes "sockets") rows)
+
 -- The greatest displacement in rows. By default there is none.
 abbrev pub within_requested : Option Text → Option (Option ℕ)
 within_requested None = Some None
@@ -369,6 +381,11 @@ job_on Serve def lefs rows =
     (first_of (codes "export") rows))
     (slots_among rows))
     (service_of rows)
+job_on Hub def lefs rows =
+    option_and_then (λ folders. option_map
+    (λ slots. hub def lefs (first_of (codes "begin") rows) slots (values_of (codes "team") rows) folders.0 folders.1)
+    (slots_among rows))
+    (folders_of rows)
 job_on Repair def lefs rows =
     option_and_then (λ options. option_map
     (λ slots. repair def lefs (first_of (codes "state") rows) slots (values_of (codes "team") rows) options
@@ -447,6 +464,9 @@ as_job (task.Replay def lefs state slots journal lines save export) =
 as_job (task.Serve def lefs state slots port connections save export) =
     serve def.now (map (λ lef. lef.now) lefs) (option_map (λ path. path.now) state) slots.number
     port connections (option_map (λ path. path.now) save) (option_map (λ path. path.now) export)
+as_job (task.Hub def lefs begin slots teams sockets journal) =
+    hub def.now (map (λ lef. lef.now) lefs) (option_map (λ path. path.now) begin) slots.number
+    (map (λ team. team.now) teams) sockets.now journal.now
 as_job (task.Repair def lefs state slots teams options files) =
     repair def.now (map (λ lef. lef.now) lefs) (option_map (λ path. path.now) state) slots.number
     (map (λ team. team.now) teams) options (repair_paths files)
@@ -459,4 +479,5 @@ abbrev pub ReadsNone : Task → Type 0
 ReadsNone task.Demo = ⊥
 ReadsNone (task.Replay def lefs state slots journal lines save export) = ⊥
 ReadsNone (task.Serve def lefs state slots port connections save export) = ⊥
+ReadsNone (task.Hub def lefs begin slots teams sockets journal) = ⊥
 ReadsNone _ = Unit {0}

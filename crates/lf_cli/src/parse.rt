@@ -5,10 +5,10 @@ ghost use Rattle.std.specs.List.{list_any};
 ghost use Rattle.clap.specs.Matches.{found_of};
 ghost use Rattle.clap.specs.Simple.{subcommand_rows_of};
 ghost use Rattle.clap.specs.Walk.{all_of, first_of, rows_of};
-ghost use Rattle.lf_cli.specs.declared.subcommand.Subcommand.TheVariants.{Check, Describe, Improve, Repair, Replay, Serve, Wirelength};
+ghost use Rattle.lf_cli.specs.declared.subcommand.Subcommand.TheVariants.{Check, Describe, Hub, Improve, Repair, Replay, Serve, Wirelength};
 ghost use Rattle.lf_cli.specs.declared.parse.UsageFault.TheVariants.{Usage};
 ghost use Rattle.lf_cli.specs.Command.{as_job, clash_among, clash_of, density_requested, improve_options_among, is_among, is_demo, is_same, is_set, job_requested, job_by, job_found, job_of, job_on};
-ghost use Rattle.lf_cli.specs.Command.{export_clash, improvement_paths_among, legal_cells, lines_clash, most_lines, moves_requested, number_in, repair_clash, repair_options_among, repair_paths, repair_paths_among, replay_clash};
+ghost use Rattle.lf_cli.specs.Command.{export_clash, folders_of, improvement_paths_among, legal_cells, lines_clash, most_lines, moves_requested, number_in, repair_clash, repair_options_among, repair_paths, repair_paths_among, replay_clash};
 ghost use Rattle.lf_cli.specs.Command.{rounds_requested, save_clash, service_of, slots_among, tries_requested, unless_clash, values_of, within_requested, working_clash, working_repeats};
 
 use crate::session_slots::{MOST_SLOTS, Slots};
@@ -155,6 +155,20 @@ pub enum Task<'a> {
         save: Option<&'a str>,
         /// The path of the exported DEF file, if any.
         export: Option<&'a str>,
+    },
+    /// Serves many clients over a design, and keeps a journal.
+    Hub {
+        def: &'a str,
+        lefs: Sequence<&'a str>,
+        /// The path of the saved state with which the journal begins, if any.
+        begin: Option<&'a str>,
+        slots: Slots,
+        /// The names of the teams that are served. If empty, all teams are served.
+        teams: Sequence<&'a str>,
+        /// The folder of the sockets.
+        sockets: &'a str,
+        /// The folder of the journal.
+        journal: &'a str,
     },
     /// Gives the cells of a design legal places.
     Repair {
@@ -409,6 +423,46 @@ fn serve_on<'a>(def: &'a str, lefs: Sequence<&'a str>, matches: &ArgMatches<'a>)
     })
 }
 
+/// Returns the folders of the sockets and of the journal of a hub. `None` if one is missing.
+fn folders_of<'a>(matches: &ArgMatches<'a>) -> Option<(&'a str, &'a str)>
+    ensures { option_map (λ folders. (folders.0.now, folders.1.now)) result ≡ folders_of (rows_of (found_of matches.now)) }
+{
+    let sockets = value_of(matches, "sockets")?;
+    let journal = value_of(matches, "journal")?;
+    Some((sockets, journal))
+}
+
+/// Makes the task of a hub on these paths.
+fn hub_on<'a>(
+    alloc: Global,
+    def: &'a str,
+    lefs: Sequence<&'a str>,
+    matches: &ArgMatches<'a>,
+) -> Result<Option<Task<'a>>, AllocError>
+    ensures { IfOk result (λ task. option_map as_job task
+        ≡ job_on Hub def.now (map (λ lef. lef.now) lefs.entry) (rows_of (found_of matches.now))) }
+{
+    let Some((sockets, journal)) = folders_of(matches) else {
+        return Ok(None);
+    };
+    let Some(slots) = slots_of(matches) else {
+        return Ok(None);
+    };
+    let begin = value_of(matches, "begin");
+    match values_of(alloc, matches, "team") {
+        Ok(teams) => Ok(Some(Task::Hub {
+            def,
+            lefs,
+            begin,
+            slots,
+            teams,
+            sockets,
+            journal,
+        })),
+        Err(error) => Err(error),
+    }
+}
+
 /// Returns the greatest displacement in rows, `Some(None)` if it is not limited, or `None` if the
 /// option's value is wrong.
 fn within_of(matches: &ArgMatches<'_>) -> Option<Option<u32>>
@@ -613,6 +667,7 @@ fn task_on<'a>(
         Subcommand::Wirelength => Ok(wirelength_on(def, lefs, matches)),
         Subcommand::Replay => Ok(replay_on(def, lefs, matches)),
         Subcommand::Serve => Ok(serve_on(def, lefs, matches)),
+        Subcommand::Hub => hub_on(alloc, def, lefs, matches),
         Subcommand::Repair => repair_on(alloc, def, lefs, matches),
         Subcommand::Improve => improve_on(alloc, def, lefs, matches),
     }
@@ -911,9 +966,11 @@ fn matches_of<'a>(alloc: Global, words: &'a [&'a str]) -> Result<ArgMatches<'a>,
 /// options:
 ///
 /// - `serve` needs `--port P`, from 1 to 65535, and `--connections N`, from 1 to 1,000,000
+/// - `hub` needs `--sockets DIR` and `--journal DIR`, and may have `--begin FILE` and `--team NAME` any
+///   number of times
 /// - `replay` may have `--lines N`, from 1 to 4,294,967,295
 /// - `serve`, `replay` and `repair` may have `--save FILE` and `--export FILE`
-/// - all may have `--sessions N`, from 1 to 64, and all but `improve` `--state FILE`
+/// - all may have `--sessions N`, from 1 to 64, and all but `hub` and `improve` `--state FILE`
 /// - `check` may have `--committed`
 /// - `repair` may have `--export-working FILE`, `--lines FILE`, `--keep` or `--all`, `--effort N`, from
 ///   0 to 10,000, `--within ROWS`, from 1 to 65535, `--balance-heights`, `--near-nets`, and

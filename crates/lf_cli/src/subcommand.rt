@@ -4,7 +4,7 @@ ghost use Rattle.std.specs.Prelude.{◌≡◌, [], ◌∷◌, bytes_eq, codes, f
 ghost use Rattle.clap.specs.Simple.{app_of, with_rule};
 ghost use Rattle.clap.specs.Walk.{rule_of};
 ghost use Rattle.clap.specs.declared.builder.command.Command.TheViews.{out-Command};
-ghost use Rattle.lf_cli.specs.declared.subcommand.Subcommand.TheVariants.{Check, Improve, Repair, Replay, Serve};
+ghost use Rattle.lf_cli.specs.declared.subcommand.Subcommand.TheVariants.{Check, Hub, Improve, Repair, Replay, Serve};
 ghost use Rattle.lf_cli.specs.Command.{command_line, def_rule, design_line, effort_rule, flag_rule, lef_rule, line_of, needed, number_rule, repeated_rule, slots_rule, subcommand_named, text_rule, with_subcommand_line, subcommand_word};
 
 use crate::session_slots::MOST_SLOTS;
@@ -42,6 +42,8 @@ pub enum Subcommand {
     Replay,
     /// Answers the lines of connections over a design.
     Serve,
+    /// Serves many clients over a design, and keeps a journal.
+    Hub,
     /// Gives the cells of a design legal places.
     Repair,
     /// Moves legal cells so that the wires of a design become shorter.
@@ -49,13 +51,14 @@ pub enum Subcommand {
 }
 
 /// All subcommands, in the order in which they are listed.
-const SUBCOMMANDS: [Subcommand; 8] = [
+const SUBCOMMANDS: [Subcommand; 9] = [
     Subcommand::Demo,
     Subcommand::Check,
     Subcommand::Describe,
     Subcommand::Wirelength,
     Subcommand::Replay,
     Subcommand::Serve,
+    Subcommand::Hub,
     Subcommand::Repair,
     Subcommand::Improve,
 ];
@@ -71,6 +74,7 @@ fn word_of(chosen: Subcommand) -> &'static str
         Subcommand::Wirelength => "wirelength",
         Subcommand::Replay => "replay",
         Subcommand::Serve => "serve",
+        Subcommand::Hub => "hub",
         Subcommand::Repair => "repair",
         Subcommand::Improve => "improve",
     }
@@ -236,6 +240,28 @@ fn serve<'a>(alloc: Global) -> Result<Command<'a>, AllocError>
     with_outputs(alloc, command)
 }
 
+/// Declares a required option whose value is a text.
+fn needed_text<'a>(alloc: Global, name: &'a str) -> Arg<'a>
+    ensures rule { rule_of result ≡ needed (text_rule name.now) }
+    ensures local { result.global ≡ false }
+{
+    text(alloc, name).required(true)
+}
+
+/// Declares the subcommand that serves many clients.
+fn hub<'a>(alloc: Global) -> Result<Command<'a>, AllocError>
+    ensures line { IfOk result (λ made. app_of made ≡ line_of Hub) }
+    ensures local { IfOk result (λ made. (out-Command made).has_globals ≡ false) }
+{
+    let command = over_design(alloc, "hub")?
+        .arg(needed_text(alloc, "sockets"))?
+        .arg(needed_text(alloc, "journal"))?;
+    command
+        .arg(repeated(alloc, "team"))?
+        .arg(text(alloc, "begin"))?
+        .arg(slots(alloc))
+}
+
 /// Declares the subcommand that repairs cells, with the options that select which cells move.
 fn repair_of_cells<'a>(alloc: Global) -> Result<Command<'a>, AllocError>
     ensures line { IfOk result (λ made. app_of made
@@ -334,6 +360,7 @@ fn line_of<'a>(alloc: Global, chosen: Subcommand) -> Result<Command<'a>, AllocEr
         Subcommand::Wirelength => look(alloc, "wirelength"),
         Subcommand::Replay => replay(alloc),
         Subcommand::Serve => serve(alloc),
+        Subcommand::Hub => hub(alloc),
         Subcommand::Repair => repair(alloc),
         Subcommand::Improve => improve(alloc),
     }

@@ -1,56 +1,69 @@
 //! The sessions that an earlier process has left open.
 
-use crate::hub_task::HubFault;
-use lf_hub_clients::{Floor, Outcome};
-use lf_hub_serve::put_records;
+use lf_hub_clients::{Floor, is_change};
+use lf_hub_serve::{Failure, put_records};
 use lf_journal::Journal;
-use lf_journal_text::{Record, write_record};
 use sqlite_disk::Disk;
-use std::alloc::Global;
+use std::alloc::{AllocError, Global};
 
-/// The most bytes of a line or of a short reply.
+/// The bytes of a buffer for a line or a short reply.
 const ROOM: usize = 4096;
 
-/// Returns the bytes without the line feed at their end.
-fn without_feed(bytes: &[u8]) -> &[u8] {
-    match bytes.split_last() {
-        Some((b'\n', rest)) => rest,
-        _ => bytes,
-    }
+/// Returns the text of the record of a line that the start of a hub has sent. The reply has its line feed.
+fn record_of_start(alloc: Global, line: &[u8], reply: &[u8]) -> Result<Vec<u8>, AllocError> {
+    let mut text = Vec::new(alloc);
+    text.extend_from_slice(b"start\n")?;
+    text.extend_from_slice(line)?;
+    text.extend_from_slice(b"\n")?;
+    text.extend_from_slice(reply)?;
+    Ok(text)
 }
 
-/// Closes all sessions of teams, and records this.
-pub(crate) fn close_sessions<'a, F: Floor, D: Disk>(
+/// Closes a session of a team, if it is open, and puts this into the journal.
+fn close_session<F: Floor, D: Disk>(
+    alloc: Global,
+    time: u64,
+    floor: &mut F,
+    journal: &mut Journal<D>,
+    team: u32,
+    session: u32,
+) -> Result<(), Failure> {
+    let mut line = Vec::with_capacity(alloc, ROOM)?;
+    let mut reply = Vec::with_capacity(alloc, ROOM)?;
+    let outcome = floor.close(team, session, &mut line, &mut reply);
+    if !is_change(outcome) {
+        return Ok(());
+    }
+    let record = record_of_start(alloc, &line, &reply)?;
+    put_records(alloc, time, journal, &record)
+}
+
+/// Closes all sessions of a team.
+fn close_team<F: Floor, D: Disk>(
+    alloc: Global,
+    time: u64,
+    floor: &mut F,
+    journal: &mut Journal<D>,
+    team: u32,
+    sessions: u32,
+) -> Result<(), Failure> {
+    for session in 0..sessions {
+        close_session(alloc, time, floor, journal, team, session)?;
+    }
+    Ok(())
+}
+
+/// Closes all sessions of these many teams.
+pub(crate) fn close_sessions<F: Floor, D: Disk>(
     alloc: Global,
     time: u64,
     floor: &mut F,
     journal: &mut Journal<D>,
     teams: u32,
     sessions: u32,
-) -> Result<u32, HubFault<'a>> {
-    let mut count = 0;
-    let mut line = Vec::with_capacity(alloc, ROOM)?;
-    let mut reply = Vec::with_capacity(alloc, ROOM)?;
-    let mut records = Vec::new(alloc);
+) -> Result<(), Failure> {
     for team in 0..teams {
-        for session in 0..sessions {
-            line.clear();
-            reply.clear();
-            match floor.close(team, session, &mut line, &mut reply) {
-                Outcome::Closed { .. } => {
-                    count += 1;
-                    records.clear();
-                    let record = Record {
-                        origin: b"start",
-                        line: without_feed(&line),
-                        reply: without_feed(&reply),
-                    };
-                    write_record(&mut records, &record)?;
-                    put_records(alloc, time, journal, &records)?;
-                }
-                _ => {}
-            }
-        }
+        close_team(alloc, time, floor, journal, team, sessions)?;
     }
-    Ok(count)
+    Ok(())
 }

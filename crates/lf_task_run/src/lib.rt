@@ -32,5 +32,5 @@ mod task;
 pub use command_log::CommandLog;
 pub use progress::{NoProgress, Progress, ProgressSink, TimedProgress};
 pub use results::{TaskResults, is_text_requested, status_by};
-pub use selected_teams::{announce_team, is_selected};
+pub use selected_teams::{all_known, announce_team, is_selected};
 pub use task::{Begun, Job, Work, run_task};

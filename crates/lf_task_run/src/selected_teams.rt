@@ -35,7 +35,7 @@ fn is_known(floor: &Floor<IndexSeeker>, name: &[u8]) -> bool
 }
 
 /// Checks that every name is a team's. `Err(NoTeam)` with the first one that is not.
-pub(crate) fn all_known<'a>(
+pub fn all_known<'a>(
     floor: &Floor<IndexSeeker>,
     teams: &'a [&'a str],
 ) -> Result<(), Fault<'a>>

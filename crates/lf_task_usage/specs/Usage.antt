@@ -5,8 +5,8 @@ use Rattle.lf_cli.specs.Command.{subcommand_named}
 use Rattle.lf_cli.specs.declared.help.Help.{Help}
 use Rattle.lf_cli.specs.declared.help.Help.TheVariants.{Program, Version, Of}
 use Rattle.lf_cli.specs.declared.subcommand.Subcommand.{Subcommand}
-use Rattle.lf_cli.specs.declared.subcommand.Subcommand.TheVariants.{Demo, Check, Describe, Wirelength, Replay, Serve, Repair, Improve}
-use Rattle.lf_task_usage.specs.declared.help_texts.TheConstants.{PROGRAM, VERSION, DEMO, CHECK, DESCRIBE, WIRELENGTH, REPLAY, SERVE, REPAIR, IMPROVE}
+use Rattle.lf_cli.specs.declared.subcommand.Subcommand.TheVariants.{Demo, Check, Describe, Wirelength, Replay, Serve, Hub, Repair, Improve}
+use Rattle.lf_task_usage.specs.declared.help_texts.TheConstants.{PROGRAM, VERSION, DEMO, CHECK, DESCRIBE, WIRELENGTH, REPLAY, SERVE, HUB, REPAIR, IMPROVE}
 use Rattle.lf_task_usage.specs.declared.usage.TheConstants.{HINT, ANY_HINT}
 
 -- ---- help
@@ -19,6 +19,7 @@ subcommand_text Describe = DESCRIBE.now
 subcommand_text Wirelength = WIRELENGTH.now
 subcommand_text Replay = REPLAY.now
 subcommand_text Serve = SERVE.now
+subcommand_text Hub = HUB.now
 subcommand_text Repair = REPAIR.now
 subcommand_text Improve = IMPROVE.now
 

@@ -22,6 +22,8 @@ pub(crate) const PROGRAM: &str =
                                 with the committed places, to FILE
   lefence serve DEF LEF... --port P --connections N [--state FILE] [--save FILE] [--export FILE] [--sessions N]
                                 answers the lines of N connections to port P of this machine, one after another
+  lefence hub DEF LEF... --sockets DIR --journal DIR [--team NAME]... [--begin FILE] [--sessions N]
+                                serves many clients over the design, and keeps a journal of what they change
   lefence repair DEF LEF... [--team NAME]... [--keep | --all] [--effort N] [--within ROWS] [--balance-heights]
               [--near-nets] [--state FILE] [--save FILE] [--export FILE] [--export-working FILE] [--lines FILE]
               [--sessions N]
@@ -112,6 +114,21 @@ example:
   lefence serve chip.def tech.lef cells.lef --port 5800 --connections 100 --export new.def
 ";
 
+/// The help of `hub`.
+pub(crate) const HUB: &str =
+    "lefence hub DEF LEF... --sockets DIR --journal DIR [--team NAME]... [--begin FILE] [--sessions N]
+
+Serves many clients at once over the design, until the operator sends 'stop'. A client connects to the unix socket of
+its team in the folder of the sockets (A.sock for team A), or to its query socket (A.query.sock), which changes nothing.
+The operator's socket is operator.sock. Each change is in the journal, on the disk, before its reply is sent. The next
+start with the same files and the same journal continues from there. With --team, only these teams are served. With
+--begin, a new journal begins with the state that was saved to FILE; each start needs it then. Each team has N session
+slots (1 to 64; 8 if not given).
+
+example:
+  lefence hub chip.def tech.lef cells.lef --sockets /run/lefence --journal /var/lib/lefence
+";
+
 /// The help of `repair`.
 pub(crate) const REPAIR: &str =
     "lefence repair DEF LEF... [--team NAME]... [--keep | --all] [--effort N] [--within ROWS] [--balance-heights]
@@ -167,6 +184,7 @@ fn subcommand_text(chosen: Subcommand) -> &'static str
         Subcommand::Wirelength => WIRELENGTH,
         Subcommand::Replay => REPLAY,
         Subcommand::Serve => SERVE,
+        Subcommand::Hub => HUB,
         Subcommand::Repair => REPAIR,
         Subcommand::Improve => IMPROVE,
     }

@@ -2,7 +2,7 @@
 
 use crate::tasks::Failing;
 use lf_app::{
-    Environment, FromRead, FsInputFiles, FsOutputFiles, NetListener, NoProgress, ToWrite,
+    Environment, FromRead, FsInputFiles, FsOutputFiles, NetListener, NoHub, NoProgress, ToWrite,
     UsageFault, run_program,
 };
 use std::alloc::{AllocError, Global};
@@ -32,6 +32,7 @@ fn run_over<W: Write>(rt: &HostRuntime, words: &Words, writer: &mut W, faults: &
         ToWrite::new(writer),
         ToWrite::new(faults),
         NoProgress,
+        NoHub,
     );
     run_program(rt.alloc(), &mut environment, words)
 }

@@ -7,7 +7,7 @@ ghost use Rattle.lf_server.specs.Devices.{writer};
 use crate::shelf::Shelf;
 use lf_app::{
     Acceptor, BindFailure, ClientReader, ClientWriter, Connection, Environment, FsInputFiles,
-    ImproveOptions, NetListener, NoProgress, PortListener, RepairFiles, ServiceConfig, Slots, Task,
+    ImproveOptions, NetListener, NoHub, NoProgress, PortListener, RepairFiles, ServiceConfig, Slots, Task,
     TaskExit, perform, perform_over,
 };
 use lf_def::DEMO_DEF;
@@ -385,6 +385,7 @@ fn with_devices<V: PortListener, R: Read, W: Write, F: Write>(
         ToWrite::new(writer),
         ToWrite::new(faults),
         NoProgress,
+        NoHub,
     );
     let exit = perform_over(rt.alloc(), &mut around, task);
     End {
