@@ -124,7 +124,8 @@ came-by n w (Frees slot) made kept may is = ap (came_after n (w.came n)) is
 
 numbers-by : (w : World) (e : HubEvent) (made : List Call) → IsOnWire w.hub e made → numbers_below w.hub.made ++ numbers_in made ≡ numbers_below (happens w e).hub.made
 numbers-by w (Opens slot team access) made is =
-    ap (λ l. numbers_below w.hub.made ++ numbers_in l) is ∙ sym (ap numbers_below (omega arith : w.hub.made + 1 ≡ suc w.hub.made))
+    let next : w.hub.made + 1 ≡ suc w.hub.made = omega arith in
+    ap (λ l. numbers_below w.hub.made ++ numbers_in l) is ∙ sym (ap numbers_below next)
 numbers-by w (Comes slot bytes) made is = elim is as (λ _. numbers_below w.hub.made ++ numbers_in made ≡ numbers_below w.hub.made) [
   | inl came ↦ ap (λ l. numbers_below w.hub.made ++ numbers_in l) came ∙ append-nil (numbers_below w.hub.made)
   | inr ended ↦ ap (λ l. numbers_below w.hub.made ++ numbers_in l) ended.0 ∙ append-nil (numbers_below w.hub.made)
@@ -336,7 +337,7 @@ module _ {S : Type 0} (takes : S → Turn → S → Type 0) where
 -- the same of servers
 pub hub_served : {F W : Type 0} (takes : F → Turn → F → Type 0) (calls : W → List Call) (old new : Server F W) (saved : List ℕ)
     → IsNew calls old → Breaks takes (service_of calls old []) (service_of calls new saved) → ServedSo takes old.floor (service_of calls new saved)
-hub_served takes calls old new saved is b =
+hub_served {F = F} takes calls old new saved is b =
     served_so takes old.floor (service_of calls new saved) (subst (λ (s : Service F). Breaks takes s (service_of calls new saved))
     (ap (λ (h : Hub). record { hub = h; floor = old.floor; calls = calls old.wire; saved = [] }) is.hub
     ∙ ap (λ (l : List Call). record { hub = start.hub; floor = old.floor; calls = l; saved = [] }) is.wire) b)

@@ -24,7 +24,7 @@ loop-preserved g c =
     let takes = IsAnswered g.F.Floor.answers g.F.Floor.shows in
     let calls = g.W.Wire.calls in
     let before = c.loop.invariant.served in
-    let more = c.in-Ok-is_busy.ensures.ok in
+    let more = c.in-Ok.ensures.ok in
     let now = c.loop.server in
     let new = c.serve_round.new.server in
     let last = c.answer_operator.new.server in
@@ -38,9 +38,9 @@ loop-preserved g c =
       served = (saved, subst (λ (s : Service g.row.F.Denot). Serves takes start s) (sym (ap (λ (s : Service g.row.F.Denot). record s { saved = saved }) same)) round,
       λ clean. more.2 clean ∙ ap (λ (r : List ℕ). r ++ more.0) (before.2 (c.serve_round.ensures.clean clean))
           ∙ append_assoc (records_of_file (g.D.Disk.seen c.args.journal.now.disk)) before.0 more.0);
-      usable = c.in-Ok-is_busy.ensures.usable;
-      settled = c.in-Ok-is_busy.ensures.settled;
-      calm = c.in-Ok-is_busy.ensures.calm ∙ c.loop.invariant.calm;
+      usable = c.in-Ok.ensures.usable;
+      settled = c.in-Ok.ensures.settled;
+      calm = c.in-Ok.ensures.calm ∙ c.loop.invariant.calm;
       clean = λ clean. c.loop.invariant.clean (c.serve_round.ensures.clean clean);
     }
 
@@ -50,7 +50,7 @@ returns-then-answer_operator-clause-served g c =
     let takes = IsAnswered g.F.Floor.answers g.F.Floor.shows in
     let calls = g.W.Wire.calls in
     let before = c.loop.invariant.served in
-    let more = c.in-Ok-is_busy.ensures.ok in
+    let more = c.in-Ok.ensures.ok in
     let now = c.loop.server in
     let new = c.serve_round.new.server in
     let last = c.answer_operator.new.server in
@@ -66,7 +66,7 @@ returns-then-answer_operator-clause-served g c =
     λ clean f left. subst (λ (r : List ℕ). KeepsRecords r last.core.hub.records f)
         (more.2 clean ∙ ap (λ (r : List ℕ). r ++ more.0) (before.2 (c.serve_round.ensures.clean clean))
         ∙ append_assoc (records_of_file (g.D.Disk.seen c.args.journal.now.disk)) before.0 more.0)
-        (settled_keeps g.D.Disk.seen g.D.Disk.may_leave journal.disk journal.end journal.len last.core.hub.records f (c.in-Ok-is_busy.ensures.settled clean) left))
+        (settled_keeps g.D.Disk.seen g.D.Disk.may_leave journal.disk journal.end journal.len last.core.hub.records f (c.in-Ok.ensures.settled clean) left))
 
 pub returns-in-Err-clause-served : goal.returns-in-Err-clause-served
 returns-in-Err-clause-served g c =
@@ -95,7 +95,7 @@ returns-clause-served g c =
         (settled_keeps g.D.Disk.seen g.D.Disk.may_leave journal.disk journal.end journal.len c.loop.server.core.hub.records f (c.loop.invariant.settled clean) left))
 
 pub returns-then-answer_operator-clause-saved : goal.returns-then-answer_operator-clause-saved
-returns-then-answer_operator-clause-saved g c is = ap (λ (s : Service g.row.F.Denot). s.hub.records) c.answer_operator.ensures.same ∙ c.in-Ok-is_busy.ensures.saved
+returns-then-answer_operator-clause-saved g c is = ap (λ (s : Service g.row.F.Denot). s.hub.records) c.answer_operator.ensures.same ∙ c.in-Ok.ensures.saved
 
 pub returns-then-answer_operator-clause-cause : goal.returns-then-answer_operator-clause-cause
 returns-then-answer_operator-clause-cause g c = c.answer_operator.ensures.stopped c.if-answer_operator.true
