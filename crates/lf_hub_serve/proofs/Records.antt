@@ -1,14 +1,8 @@
 -- The records of a file after a batch more.
-use Rattle.std.proofs.Common.{◌≡◌, ◌<◌, ◌≤◌, ◌⊎◌, ℕ, List, [], ◌∷◌, ◌++◌, length, drop, refl, sym, ap, subst, ◌∙◌, inl, inr, true, arith, append_assoc, append-nil}
-use Rattle.std.specs.Prelude.{slice_index}
-use Rattle.std.specs.List.{flat_map}
+use Rattle.std.proofs.Common.{◌≡◌, ℕ, List, [], ◌∷◌, ◌++◌, drop, refl, sym, ap, subst, ◌∙◌, inl, inr, append-nil}
 use Rattle.std.proofs.lemmas.Grind.{flat_map-append}
 use Rattle.std.proofs.lemmas.List.{drop-drop}
-use Rattle.sqlite_disk.specs.Disk.{Only}
-use Rattle.lf_journal_text.specs.Batches.{recovered, is_intact}
-use Rattle.lf_journal_text.specs.Records.{batch_text}
-use Rattle.lf_journal_text.proofs.Framing.{payload_there}
-use Rattle.lf_journal.specs.Journals.{IsSettled, IsBeforeOrAfter, StandsFor}
+use Rattle.lf_journal.specs.Journals.{IsSettled, IsBeforeOrAfter}
 use Rattle.lf_journal.proofs.Crash.{settled_stands}
 use Rattle.lf_hub_serve.specs.Saving.{records_in, records_of_file, KeepsRecords}
 

@@ -1,5 +1,5 @@
 -- The events of a service, as a run of the machine, and what follows for clients and the journal.
-use Rattle.std.proofs.Common.{◌≡◌, ◌<◌, ◌⊎◌, ℕ, suc, Bool, true, false, cond, nat_lt, List, [], ◌∷◌, ◌++◌, length, take, refl, sym, ap, subst, ◌∙◌, inl, inr, arith, append_assoc, append-nil}
+use Rattle.std.proofs.Common.{◌≡◌, ◌<◌, ℕ, suc, Bool, true, false, cond, nat_lt, List, [], ◌∷◌, ◌++◌, length, take, refl, sym, ap, subst, ◌∙◌, inl, inr, arith, append_assoc, append-nil}
 use Rattle.std.specs.Prelude.{◌==◌, ◌+◌}
 use Rattle.std.specs.List.{flat_map}
 use Rattle.std.proofs.lemmas.Grind.{flat_map-append}
@@ -18,7 +18,7 @@ use Rattle.lf_hub.proofs.Kept.{AllOld, Kept, kept_next, kept_run, kept_start, te
 use Rattle.lf_hub.proofs.Slots.{each, entry-same, entry-other}
 use Rattle.lf_hub.proofs.Steps.{lines-append}
 use Rattle.lf_hub_wire.specs.Calls.{Call, Accepted, Numbered, Came, Ended, Sent, Closed, Ordered, Told, ComesBy, came_after, came_from, came_with, line_end, numbers_by, numbers_in, sent_by, sent_to}
-use Rattle.lf_hub_serve.specs.Serving.{Service, Happens, Follow, Serves, Breaks, IsOnWire, brings, saved_by, last_feed}
+use Rattle.lf_hub_serve.specs.Serving.{Service, Happens, Follow, Serves, Breaks, IsOnWire, brings, saved_by, end_of_line}
 use Rattle.lf_hub_serve.specs.Served.{ForSockets, IsNew, IsServed, numbers_below, records_of}
 use Rattle.lf_hub_serve.specs.Servers.{service_of}
 use Rattle.lf_hub_serve.specs.declared.server.Server.{Server}
@@ -102,7 +102,7 @@ came-end w n m bytes false e is = refl
 
 -- the line that a client has begun is the one that the bytes from it have begun
 feed-is : (w : World) (slot : ℕ) → Kept w → slot < length w.hub.slots → is_open (connection_at slot w.hub.slots).stage ≡ true
-    → last_feed (connection_at slot w.hub.slots) ≡ line_end (w.came (number_at slot w))
+    → end_of_line (connection_at slot w.hub.slots) ≡ line_end (w.came (number_at slot w))
 feed-is w slot kept below is =
     ap (λ (b : List ℕ). cond (nat_lt 0 (length b)) (10 ∷ []) []) ((kept.slots slot below).begun (open_is_live (connection_at slot w.hub.slots).stage is))
 
@@ -124,7 +124,8 @@ came-by n w (Frees slot) made kept may is = ap (came_after n (w.came n)) is
 
 numbers-by : (w : World) (e : HubEvent) (made : List Call) → IsOnWire w.hub e made → numbers_below w.hub.made ++ numbers_in made ≡ numbers_below (happens w e).hub.made
 numbers-by w (Opens slot team access) made is =
-    ap (λ l. numbers_below w.hub.made ++ numbers_in l) is ∙ sym (ap numbers_below (omega arith : w.hub.made + 1 ≡ suc w.hub.made))
+    let next : w.hub.made + 1 ≡ suc w.hub.made = omega arith in
+    ap (λ l. numbers_below w.hub.made ++ numbers_in l) is ∙ sym (ap numbers_below next)
 numbers-by w (Comes slot bytes) made is = elim is as (λ _. numbers_below w.hub.made ++ numbers_in made ≡ numbers_below w.hub.made) [
   | inl came ↦ ap (λ l. numbers_below w.hub.made ++ numbers_in l) came ∙ append-nil (numbers_below w.hub.made)
   | inr ended ↦ ap (λ l. numbers_below w.hub.made ++ numbers_in l) ended.0 ∙ append-nil (numbers_below w.hub.made)
@@ -144,11 +145,11 @@ comes-first : (w : World) (slot team : ℕ) (access : Access) (calls made : List
 comes-first w slot team access calls made is all n below =
     each (λ m. m < w.hub.made + 1 → ComesBy m ((happens w (Opens slot team access)).team m) ((happens w (Opens slot team access)).access m) (calls ++ made)) n w.hub.made
     (λ _. subst (λ (t : ℕ). ComesBy w.hub.made t ((happens w (Opens slot team access)).access w.hub.made) (calls ++ made)) (sym (entry-same w.hub.made team (w.team w.hub.made)))
-        (subst (λ (a : Access). ComesBy w.hub.made team a (calls ++ made)) (sym (entry-same w.hub.made access (w.access w.hub.made)))
-        (calls, [], ap (λ (l : List Call). calls ++ l) is)))
+    (subst (λ (a : Access). ComesBy w.hub.made team a (calls ++ made)) (sym (entry-same w.hub.made access (w.access w.hub.made)))
+    (calls, [], ap (λ (l : List Call). calls ++ l) is)))
     (λ other _. subst (λ (t : ℕ). ComesBy n t ((happens w (Opens slot team access)).access n) (calls ++ made)) (sym (entry-other n w.hub.made team (w.team n) other))
-        (subst (λ (a : Access). ComesBy n (w.team n) a (calls ++ made)) (sym (entry-other n w.hub.made access (w.access n) other))
-        (comes-more n (w.team n) (w.access n) calls made (all n (omega (arith, below, other))))))
+    (subst (λ (a : Access). ComesBy n (w.team n) a (calls ++ made)) (sym (entry-other n w.hub.made access (w.access n) other))
+    (comes-more n (w.team n) (w.access n) calls made (all n (omega (arith, below, other))))))
     below
 
 comes-still : (w : World) (calls made : List Call) → AllCome w calls → AllCome w (calls ++ made)
@@ -336,7 +337,7 @@ module _ {S : Type 0} (takes : S → Turn → S → Type 0) where
 -- the same of servers
 pub hub_served : {F W : Type 0} (takes : F → Turn → F → Type 0) (calls : W → List Call) (old new : Server F W) (saved : List ℕ)
     → IsNew calls old → Breaks takes (service_of calls old []) (service_of calls new saved) → ServedSo takes old.floor (service_of calls new saved)
-hub_served takes calls old new saved is b =
+hub_served {F = F} takes calls old new saved is b =
     served_so takes old.floor (service_of calls new saved) (subst (λ (s : Service F). Breaks takes s (service_of calls new saved))
     (ap (λ (h : Hub). record { hub = h; floor = old.floor; calls = calls old.wire; saved = [] }) is.hub
     ∙ ap (λ (l : List Call). record { hub = start.hub; floor = old.floor; calls = l; saved = [] }) is.wire) b)

@@ -1,5 +1,5 @@
 -- Services that events lead from one to another.
-use Rattle.std.proofs.Common.{◌≡◌, ◌<◌, ◌≤◌, ◌⊎◌, ℕ, List, [], ◌∷◌, ◌++◌, length, take_all, arith, refl, sym, ap, subst, ◌∙◌, inl, inr, true, take, append_assoc, append-nil}
+use Rattle.std.proofs.Common.{◌≡◌, ◌<◌, ◌≤◌, ℕ, List, [], ◌∷◌, ◌++◌, length, take_all, arith, refl, sym, ap, subst, ◌∙◌, inl, inr, true, take, append_assoc, append-nil}
 use Rattle.std.specs.Prelude.{min, cond, nat_lt, Bool, false}
 use Rattle.lf_hub_clients.specs.Turns.{Turn}
 use Rattle.lf_hub_clients.specs.declared.client.Access.{Access}
@@ -10,7 +10,7 @@ use Rattle.lf_hub.specs.Progress.{Advances, CoreState, last_turn, last_closing}
 use Rattle.lf_hub.specs.declared.hub_core.Progress.{Progress}
 use Rattle.lf_hub.specs.declared.hub_core.Progress.TheVariants.{Idle, Passed, Answered, Closed as ClosedOne, Freed}
 use Rattle.lf_hub_wire.specs.Calls.{Call, Accepted, Numbered, Came, Ended, Sent, Closed}
-use Rattle.lf_hub_serve.specs.Serving.{Service, Happens, Follow, Serves, Breaks, brings, saved_by, number_in, last_feed}
+use Rattle.lf_hub_serve.specs.Serving.{Service, Happens, Follow, Serves, Breaks, brings, saved_by, number_in, end_of_line}
 
 abbrev pub with_saved : {S : Type 0} → List ℕ → Service S → Service S
 with_saved before s = record s { saved = before ++ s.saved }
@@ -24,7 +24,7 @@ feed_length : (b : Bool) → length {A = ℕ} (cond b (10 ∷ []) []) ≤ 1
 feed_length true = omega arith
 feed_length false = omega arith
 
-pub feed_fits : (c : Connection) (bytes : List ℕ) (room : ℕ) → bytes ≡ last_feed c → 0 < room → length bytes ≤ room
+pub feed_fits : (c : Connection) (bytes : List ℕ) (room : ℕ) → bytes ≡ end_of_line c → 0 < room → length bytes ≤ room
 feed_fits c bytes room e some = omega (arith, ap (λ (b : List ℕ). length b) e, feed_length (nat_lt 0 (length c.begun)), some)
 
 -- only an open client has room
@@ -181,7 +181,7 @@ module _ {S : Type 0} (takes : S → Turn → S → Type 0) where
 
   pub ended : (g h : Hub) (floor : S) (l m : List Call) (slot number : ℕ) (bytes : List ℕ)
       → May g (Comes slot bytes) → h ≡ after g (Comes slot bytes) → number ≡ number_in slot g
-      → is_open (connection_at slot g.slots).stage ≡ true → bytes ≡ last_feed (connection_at slot g.slots) → m ≡ l ++ Ended number ∷ [] → Serves takes (service g floor l) (service h floor m)
+      → is_open (connection_at slot g.slots).stage ≡ true → bytes ≡ end_of_line (connection_at slot g.slots) → m ≡ l ++ Ended number ∷ [] → Serves takes (service g floor l) (service h floor m)
   ended g h floor l m slot number bytes may e is is_still_open feed p =
       serves_one (service g floor l) (service h floor m) (Comes slot bytes) (record {
         may = may;
@@ -204,7 +204,7 @@ module _ {S : Type 0} (takes : S → Turn → S → Type 0) where
   pub ended_whole : (g h : Hub) (floor : S) (l m : List Call) (slot number n : ℕ) (bytes : List ℕ)
       → slot < length g.slots → length bytes ≤ room_of (connection_at slot g.slots) → n ≡ min (length bytes) (room_of (connection_at slot g.slots))
       → h ≡ after g (Comes slot (take n bytes)) → number ≡ number_in slot g → 0 < room_of (connection_at slot g.slots)
-      → bytes ≡ last_feed (connection_at slot g.slots) → m ≡ l ++ Ended number ∷ [] → Serves takes (service g floor l) (service h floor m)
+      → bytes ≡ end_of_line (connection_at slot g.slots) → m ≡ l ++ Ended number ∷ [] → Serves takes (service g floor l) (service h floor m)
   ended_whole g h floor l m slot number n bytes below fits count e is some feed p =
       ended g h floor l m slot number bytes (below, fits)
       (e ∙ ap (λ (b : List ℕ). after g (Comes slot b)) (taken bytes n (room_of (connection_at slot g.slots)) count fits)) is

@@ -20,8 +20,8 @@ abbrev pub number_in : ℕ → Hub → ℕ
 number_in slot h = (connection_at slot h.slots).number
 
 -- The line feed that ends the line that a client has begun, if it has begun one.
-abbrev pub last_feed : Connection → List ℕ
-last_feed c = cond (nat_lt 0 (length c.begun)) (10 ∷ []) []
+abbrev pub end_of_line : Connection → List ℕ
+end_of_line c = cond (nat_lt 0 (length c.begun)) (10 ∷ []) []
 
 -- The calls that an event is. Bytes come by a read. If an open client sends no more, the line that it
 -- has begun is ended.
@@ -29,7 +29,7 @@ abbrev pub IsOnWire : Hub → HubEvent → List Call → Type 0
 IsOnWire h (Opens slot team access) calls = calls ≡ Accepted team access ∷ Numbered h.made ∷ []
 IsOnWire h (Comes slot bytes) calls = (calls ≡ Came (number_in slot h) bytes ∷ [])
     ⊎ ((calls ≡ Ended (number_in slot h) ∷ []) × (is_open (connection_at slot h.slots).stage ≡ true)
-    × (bytes ≡ last_feed (connection_at slot h.slots)))
+    × (bytes ≡ end_of_line (connection_at slot h.slots)))
 IsOnWire h (Answers slot turn) calls = calls ≡ []
 IsOnWire h (Closes slot s turn) calls = calls ≡ []
 IsOnWire h Syncs calls = calls ≡ []

@@ -4,7 +4,7 @@ ghost use Rattle.std.specs.Prelude.{◌≡◌, ◌<◌, ◌≤◌, OnErr, OnOk, 
 ghost use Rattle.lf_hub_clients.specs.Connections.{room_of};
 ghost use Rattle.lf_hub_clients.specs.Turns.{IsAnswered};
 ghost use Rattle.lf_hub.specs.Machine.{connection_at};
-ghost use Rattle.lf_hub_serve.specs.Serving.{last_feed};
+ghost use Rattle.lf_hub_serve.specs.Serving.{end_of_line};
 ghost use Rattle.lf_hub_serve.specs.Servers.{BreaksOff, GoesOn};
 
 use crate::departures::hang_up;
@@ -48,8 +48,8 @@ pub(crate) fn accept_clients<F: Floor, W: Wire>(
 }
 
 /// Returns the line feed that ends the line that a client has begun, if it has begun one.
-fn last_feed(client: &Client) -> &'static [u8]
-    ensures { result.now ≡ last_feed client.now }
+fn end_of_line(client: &Client) -> &'static [u8]
+    ensures { result.now ≡ end_of_line client.now }
 {
     if client.has_begun() { b"\n" } else { b"" }
 }
@@ -60,12 +60,12 @@ fn read_client<F: Floor, W: Wire>(
     server: &mut Server<F, W>,
     slot: usize,
     number: u64,
-    last: &[u8],
+    line_end: &[u8],
     buffer: &mut [u8],
 ) -> Result<bool, AllocError>
     requires slot { slot < length server.old.core.hub.slots }
     requires number { number ≡ (connection_at slot server.old.core.hub.slots).number }
-    requires last { last.now ≡ last_feed (connection_at slot server.old.core.hub.slots) }
+    requires line_end { line_end.now ≡ end_of_line (connection_at slot server.old.core.hub.slots) }
     requires room { length buffer.old ≤ room_of (connection_at slot server.old.core.hub.slots) }
     requires some { 0 < length buffer.old }
     ensures ok { OnOk result (GoesOn (IsAnswered F.answers F.shows) W.calls server.old server.new) }
@@ -78,10 +78,13 @@ fn read_client<F: Floor, W: Wire>(
         }
         Incoming::Nothing => Ok(false),
         Incoming::End => {
-            server.core.comes(slot, last)?;
+            server.core.comes(slot, line_end)?;
             Ok(true)
         }
-        Incoming::Failed => hang_up(server, slot),
+        Incoming::Failed => {
+            hang_up(server, slot)?;
+            Ok(true)
+        }
     }
 }
 
@@ -103,8 +106,8 @@ fn read_slot<F: Floor, W: Wire>(
         return Ok(Some(false));
     }
     let number = client.number();
-    let last = last_feed(client);
-    let has_come = read_client(server, slot, number, last, &mut buffer[..room])?;
+    let line_end = end_of_line(client);
+    let has_come = read_client(server, slot, number, line_end, &mut buffer[..room])?;
     Ok(Some(has_come))
 }
 

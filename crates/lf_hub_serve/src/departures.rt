@@ -9,48 +9,45 @@ use lf_hub_clients::{Client, Floor, Stage};
 use lf_hub_wire::{Outgoing, Wire};
 use std::alloc::AllocError;
 
-/// Has the client in a slot leave, and closes its connection. Returns whether it was there.
+/// Has the client in a slot leave, and closes its connection.
 pub(crate) fn hang_up<F: Floor, W: Wire>(
     server: &mut Server<F, W>,
     slot: usize,
-) -> Result<bool, AllocError>
+) -> Result<(), AllocError>
     ensures ok { OnOk result (GoesOn (IsAnswered F.answers F.shows) W.calls server.old server.new) }
     ensures records { server.new.core.hub.records ≡ server.old.core.hub.records }
     ensures err { OnErr result (BreaksOff (IsAnswered F.answers F.shows) W.calls server.old server.new) }
 {
     if !server.core.is_live(slot) {
-        return Ok(false);
+        return Ok(());
     }
     let Some(client) = server.core.client(slot) else {
-        return Ok(false);
+        return Ok(());
     };
     let number = client.number();
     server.core.leaves(slot)?;
     server.wire.close(number);
-    Ok(true)
+    Ok(())
 }
 
 /// Sends the client in a slot what may be sent. A client whose connection has failed leaves.
-fn send_client<F: Floor, W: Wire>(
-    server: &mut Server<F, W>,
-    slot: usize,
-) -> Result<bool, AllocError>
+fn send_client<F: Floor, W: Wire>(server: &mut Server<F, W>, slot: usize) -> Result<(), AllocError>
     ensures ok { OnOk result (GoesOn (IsAnswered F.answers F.shows) W.calls server.old server.new) }
     ensures records { server.new.core.hub.records ≡ server.old.core.hub.records }
     ensures err { OnErr result (BreaksOff (IsAnswered F.answers F.shows) W.calls server.old server.new) }
 {
     let Some(client) = server.core.client(slot) else {
-        return Ok(false);
+        return Ok(());
     };
     if client.ready().is_empty() {
-        return Ok(false);
+        return Ok(());
     }
     match server.wire.write(client.number(), client.ready()) {
         Outgoing::Bytes { count } => {
             server.core.sends(slot, count)?;
-            Ok(true)
+            Ok(())
         }
-        Outgoing::Nothing => Ok(false),
+        Outgoing::Nothing => Ok(()),
         Outgoing::Failed => hang_up(server, slot),
     }
 }
@@ -70,17 +67,17 @@ fn is_finished(client: &Client, has_ended: bool) -> bool {
 }
 
 /// Has the client in a slot leave if nothing is left to do for it.
-fn end_client<F: Floor, W: Wire>(server: &mut Server<F, W>, slot: usize) -> Result<bool, AllocError>
+fn end_client<F: Floor, W: Wire>(server: &mut Server<F, W>, slot: usize) -> Result<(), AllocError>
     ensures ok { OnOk result (GoesOn (IsAnswered F.answers F.shows) W.calls server.old server.new) }
     ensures records { server.new.core.hub.records ≡ server.old.core.hub.records }
     ensures err { OnErr result (BreaksOff (IsAnswered F.answers F.shows) W.calls server.old server.new) }
 {
     let Some(client) = server.core.client(slot) else {
-        return Ok(false);
+        return Ok(());
     };
     let has_ended = server.wire.has_ended(client.number());
     if !is_finished(client, has_ended) {
-        return Ok(false);
+        return Ok(());
     }
     hang_up(server, slot)
 }

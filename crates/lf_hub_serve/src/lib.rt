@@ -16,6 +16,8 @@
 //! - It ends because the operator has stopped it, a call of the disk has failed, records do not fit into
 //!   a batch, or memory is lacking; or after 2 to the power of 64 rounds.
 //!
+//! A crash of the machine is read as a disk whose calls all fail from then on, as `sqlite_disk` has it.
+//!
 //! Nothing says that a line is ever answered. Tests show that.
 //!
 //! Used by `lf_tests_hub`.

@@ -1,4 +1,4 @@
-use Rattle.std.proofs.Common.{◌≡◌, ◌≤◌, ℕ, List, true, length, take, arith, refl, sym, ap, subst, ◌∙◌, inl, inr, length-take-le}
+use Rattle.std.proofs.Common.{◌≤◌, length, take, arith, refl, length-take-le}
 use Rattle.std.proofs.lemmas.Result.{err_from_is_err_and}
 use Rattle.lf_hub_clients.specs.Turns.{IsAnswered}
 use Rattle.lf_hub.specs.Machine.{connection_at}
@@ -23,9 +23,9 @@ returns-in_ok-comes-in-End-clause-ok g c =
     let hub = c.args.server.now.core.hub in
     let here = connection_at c.args.slot hub.slots in
     ended_whole (IsAnswered g.F.Floor.answers g.F.Floor.shows) hub c.comes-in-End.new.self.hub c.args.server.now.floor
-    (g.W.Wire.calls c.args.server.now.wire) (g.W.Wire.calls c.read.new.self) c.args.slot c.args.number c.in_ok-comes-in-End.field-0 c.args.last.now
-    c.requires.slot (feed_fits here c.args.last.now (room_of here) c.requires.last (omega (arith, c.requires.some, c.requires.room)))
-    c.in_ok-comes-in-End.ensures.taken c.in_ok-comes-in-End.ensures.after c.requires.number (omega (arith, c.requires.some, c.requires.room)) c.requires.last c.in-End.ensures.calls
+    (g.W.Wire.calls c.args.server.now.wire) (g.W.Wire.calls c.read.new.self) c.args.slot c.args.number c.in_ok-comes-in-End.field-0 c.args.line_end.now
+    c.requires.slot (feed_fits here c.args.line_end.now (room_of here) c.requires.line_end (omega (arith, c.requires.some, c.requires.room)))
+    c.in_ok-comes-in-End.ensures.taken c.in_ok-comes-in-End.ensures.after c.requires.number (omega (arith, c.requires.some, c.requires.room)) c.requires.line_end c.in-End.ensures.calls
 
 pub returns-in_err-comes-in-Bytes-clause-err : goal.returns-in_err-comes-in-Bytes-clause-err
 returns-in_err-comes-in-Bytes-clause-err g c =

@@ -1,9 +1,8 @@
-use Rattle.std.proofs.Common.{◌≡◌, ◌≤◌, ℕ, List, true, length, take, arith, refl, sym, ap, subst, ◌∙◌, inl, inr}
-use Rattle.std.proofs.lemmas.Grind.{common_steps}
+use Rattle.std.proofs.Common.{◌≡◌, ◌≤◌, ℕ, List, length, ap, subst, ◌∙◌}
 use Rattle.std.proofs.lemmas.Result.{err_from_is_err_and}
 use Rattle.lf_hub_clients.specs.Turns.{IsAnswered}
 use Rattle.lf_hub_clients.specs.Connections.{Connection}
-use Rattle.lf_hub.specs.Machine.{connection_at, is_live}
+use Rattle.lf_hub.specs.Machine.{connection_at}
 use Rattle.lf_hub_serve.proofs.Services.{sent, breaks_whole}
 use Rattle.lf_hub_serve.proofs.departures.send_client.Goals as goal
 

@@ -9,7 +9,9 @@ returns-then-is_stop-clause-stopped g c is =
     let orders = g.W.Wire.orders c.args.server.now.wire in
     let reply : List ℕ = codes "ok" ++ 10 ∷ [] in
     let taken : c.take_order.result ≡ true = grind (arith, common_steps, c.if-not-take_order.false) in
-    let line : c.take_order.new.line.items ≡ codes "stop" = sym c.as_slice.ensures.value ∙ c.is_stop.ensures c.if-is_stop.true in
-    (orders, c.answer_order.ensures.orders ∙ ap (λ (l : List Call). l ++ Told reply ∷ []) (c.take_order.ensures.some taken)
-    ∙ append_assoc orders (Ordered c.take_order.new.line.items ∷ []) (Told reply ∷ [])
-    ∙ ap (λ (b : List ℕ). orders ++ Ordered b ∷ Told reply ∷ []) line)
+    let line : c.take_order.new.line.items ≡ codes "stop" = sym c.as_slice.ensures.value ∙ c.is_stop.ensures c.if-is_stop.true in (
+      orders,
+      c.answer_order.ensures.orders ∙ ap (λ (l : List Call). l ++ Told reply ∷ []) (c.take_order.ensures.some taken)
+          ∙ append_assoc orders (Ordered c.take_order.new.line.items ∷ []) (Told reply ∷ [])
+          ∙ ap (λ (b : List ℕ). orders ++ Ordered b ∷ Told reply ∷ []) line,
+    )

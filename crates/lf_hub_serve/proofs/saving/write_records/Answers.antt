@@ -1,4 +1,3 @@
-use Rattle.std.proofs.Common.{sym}
 use Rattle.lf_hub_serve.proofs.Records.{settled_keeps}
 use Rattle.lf_hub_serve.proofs.saving.write_records.Goals as goal
 
