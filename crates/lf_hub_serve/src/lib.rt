@@ -48,5 +48,5 @@ mod server;
 mod serving;
 
 pub use server::{Ending, Failure, Server};
-pub use saving::{put_records, time_of};
+pub use saving::{time_of, write_records};
 pub use serving::serve_hub;

@@ -73,7 +73,7 @@ fn make_batch(alloc: Global, time: u64, records: &[u8]) -> Result<Vec<u8>, Alloc
 ///
 /// `Err(UnfitRecords)` if they are too long for a batch, if one of their bytes is zero, or if the segment
 /// is too long; then nothing was written. `Err(Disk)` if the disk fails.
-pub fn put_records<D: Disk>(
+fn put_records<D: Disk>(
     alloc: Global,
     time: u64,
     journal: &mut Journal<D>,
@@ -114,7 +114,7 @@ pub fn put_records<D: Disk>(
 }
 
 /// Adds records to the journal, if there are any, as `put_records` does.
-fn write_records<D: Disk>(
+pub fn write_records<D: Disk>(
     alloc: Global,
     time: u64,
     journal: &mut Journal<D>,

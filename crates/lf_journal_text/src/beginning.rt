@@ -3,7 +3,7 @@
 ghost use Rattle.std.specs.Prelude.{◌≡◌, ◌<◌, ◌^◌, ◌++◌, true, length, map, IfOk, OnOk};
 ghost use Rattle.std.specs.Str.{bytes_eq};
 ghost use Rattle.lf_journal_text.specs.Batches.{IsBatch};
-ghost use Rattle.lf_journal_text.specs.Records.{beginning, beginning_text, design_line, entry_text, is_line, names_text, state_name};
+ghost use Rattle.lf_journal_text.specs.Records.{beginning, beginning_text, design_line, entry_text, is_line, names_text, state_name, title};
 
 use crate::batch::sum_from;
 use crate::frame::{batch_of, write_digits};
@@ -52,6 +52,22 @@ pub fn design_line(alloc: Global, sessions: u64, names: &[Vec<u8>]) -> Result<Ve
     Ok(line)
 }
 
+/// Returns the text of the record with which a segment begins: `design` is the line of the design, and
+/// `name` the name of the state.
+pub fn first_record(alloc: Global, design: &[u8], name: &[u8]) -> Result<Vec<u8>, AllocError>
+    ensures { IfOk result (λ text. text.items
+        ≡ entry_text (record { origin = title; line = design.now; reply = name.now })) }
+{
+    let mut text = Vec::new(alloc);
+    let record = Record {
+        origin: b"lefence-journal 4",
+        line: design,
+        reply: name,
+    };
+    write_record(&mut text, &record)?;
+    Ok(text)
+}
+
 /// Returns the batch with which a segment begins. `design` is a line of the hub's: what a start
 /// compares, as the sums of the design's texts and the number of session slots.
 pub fn beginning_of(
@@ -67,12 +83,6 @@ pub fn beginning_of(
     ensures batch { IfOk result (λ batch. IsBatch batch.items) }
 {
     let name = text_name(alloc, state)?;
-    let mut records = Vec::new(alloc);
-    let record = Record {
-        origin: b"lefence-journal 4",
-        line: design,
-        reply: &name,
-    };
-    write_record(&mut records, &record)?;
-    batch_of(alloc, time, &records)
+    let record = first_record(alloc, design, &name)?;
+    batch_of(alloc, time, &record)
 }

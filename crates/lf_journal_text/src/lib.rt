@@ -57,7 +57,7 @@ mod refusal;
 mod segment;
 
 pub use batch::{damage_kind, is_torn, size_of_batch, whole_length};
-pub use beginning::{beginning_of, design_line, names_state, text_name};
+pub use beginning::{beginning_of, design_line, first_record, names_state, text_name};
 pub use damage::{Damage, DamageKind};
 pub use frame::batch_of;
 pub use laws::{

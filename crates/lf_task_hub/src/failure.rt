@@ -1,5 +1,7 @@
 //! Faults of a hub.
 
+ghost use Rattle.lf_task_hub.specs.Hubs.{IsOfHub};
+
 use lf_hub_serve::Failure;
 use lf_io::WriteFailureKind;
 use lf_task_faults::{BindFailure, Fault, HubFailure};
@@ -19,7 +21,9 @@ fn file_failure(error: &io::Error) -> WriteFailureKind {
 }
 
 /// Returns the fault of a journal in this folder whose file fails.
-pub(crate) fn journal_fault<'a>(folder: &'a str, error: &io::Error) -> Fault<'a> {
+pub(crate) fn journal_fault<'a>(folder: &'a str, error: &io::Error) -> Fault<'a>
+    ensures { IsOfHub result }
+{
     if error.kind() == ErrorKind::OutOfMemory {
         return Fault::SetupOutOfMemory;
     }
@@ -27,7 +31,9 @@ pub(crate) fn journal_fault<'a>(folder: &'a str, error: &io::Error) -> Fault<'a>
 }
 
 /// Returns the fault of a socket in this folder that cannot be made.
-pub(crate) fn socket_fault<'a>(folder: &'a str, error: &io::Error) -> Fault<'a> {
+pub(crate) fn socket_fault<'a>(folder: &'a str, error: &io::Error) -> Fault<'a>
+    ensures { IsOfHub result }
+{
     let why = match error.kind() {
         ErrorKind::OutOfMemory => return Fault::SetupOutOfMemory,
         ErrorKind::AddrInUse => BindFailure::InUse,
@@ -38,10 +44,12 @@ pub(crate) fn socket_fault<'a>(folder: &'a str, error: &io::Error) -> Fault<'a> 
 }
 
 /// Returns the fault of a hub whose journal is in this folder, and which ends by this failure.
-pub(crate) fn serving_fault<'a>(folder: &'a str, failure: Failure) -> Fault<'a> {
+pub(crate) fn serving_fault<'a>(folder: &'a str, failure: Failure) -> Fault<'a>
+    ensures { IsOfHub result }
+{
     match failure {
         Failure::Disk(error) => journal_fault(folder, &error),
-        Failure::UnfitRecords => Fault::Hub(folder, HubFailure::Journal(WriteFailureKind::Full)),
+        Failure::UnfitRecords => Fault::Hub(folder, HubFailure::Journal(WriteFailureKind::Other)),
         Failure::OutOfMemory => Fault::SetupOutOfMemory,
     }
 }

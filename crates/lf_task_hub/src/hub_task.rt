@@ -1,8 +1,13 @@
 //! The whole task of a hub.
 
+ghost use Rattle.std.specs.Prelude.{◌≡◌, ◌<◌, ◌^◌, IfErr, IfOk, IsTrue, OnOk, map};
+ghost use Rattle.lf_journal.specs.Journals.{IsSettled};
+ghost use Rattle.lf_task_files.specs.Inputs.{path_of};
+ghost use Rattle.lf_task_hub.specs.Hubs.{IsHubFault, IsHubServed, IsOfHub, ServesAfterClosing, ServesFrom, ServesRestored};
+
 use crate::failure::{journal_fault, serving_fault, socket_fault};
 use crate::input::HubInput;
-use crate::journal::open_journal;
+use crate::journal::{due_beginning, open_journal};
 use crate::leftover_sessions::close_sessions;
 use crate::socket_names::{TeamSocket, doors_of, sockets_of};
 use lf_floor::Floor;
@@ -10,15 +15,48 @@ use lf_hub::Core;
 use lf_hub_floor::TeamFloor;
 use lf_hub_host::HubHost;
 use lf_hub_serve::{Ending, Server, serve_hub, time_of};
+use lf_hub_wire::Wire;
 use lf_journal::Journal;
 use lf_legalize::IndexSeeker;
 use lf_task_designs::{InputFiles, OpenedDesign, open_design};
 use lf_task_faults::Fault;
 use lf_task_files::open_floor;
 use lf_task_run::all_known;
+use sqlite_disk::Disk;
 use std::alloc::Global;
+use std::time::Clock;
 
-/// Serves clients over a floor, from the sockets of these teams, until the operator stops the hub.
+/// Serves the clients of this wire over a floor, until the operator stops the hub.
+fn serve_wire<'a, W: Wire + Drop, D: Disk>(
+    alloc: Global,
+    clock: &impl Clock,
+    floor: TeamFloor<IndexSeeker>,
+    teams: usize,
+    wire: W,
+    journal: &mut Journal<D>,
+    folder: &'a str,
+) -> Result<u8, Fault<'a>>
+    requires unused { W.calls wire ≡ [] }
+    requires usable { IsTrue (D.Disk.is_usable journal.old.disk) }
+    requires settled { IsTrue (D.Disk.is_clean journal.old.disk)
+        → IsSettled D.Disk.seen D.Disk.may_leave journal.old.disk journal.old.end journal.old.len }
+    ensures served { OnOk result (ServesFrom floor) }
+    ensures status { IfOk result (λ status. status ≡ 0) }
+    ensures err { IfErr result IsOfHub }
+{
+    let Ok(core) = Core::new(alloc, teams) else {
+        return Err(Fault::SetupOutOfMemory);
+    };
+    let mut server = Server { core, floor, wire };
+    match serve_hub(alloc, clock, &mut server, journal) {
+        Ending::Stopped => Ok(0),
+        Ending::Failed(failure) => Err(serving_fault(folder, failure)),
+        Ending::Spent => Ok(0),
+    }
+}
+
+/// Closes the sessions that an earlier process has left open, and serves the clients of these sockets over
+/// the floor, until the operator stops the hub.
 fn serve_floor<'a, H: HubHost>(
     alloc: Global,
     host: &H,
@@ -26,7 +64,14 @@ fn serve_floor<'a, H: HubHost>(
     journal: &mut Journal<H::Segment>,
     sockets: &[TeamSocket],
     input: HubInput<'a>,
-) -> Result<u8, Fault<'a>> {
+) -> Result<u8, Fault<'a>>
+    requires usable { IsTrue (H.Segment.Disk.is_usable journal.old.disk) }
+    requires settled { IsTrue (H.Segment.Disk.is_clean journal.old.disk)
+        → IsSettled H.Segment.Disk.seen H.Segment.Disk.may_leave journal.old.disk journal.old.end journal.old.len }
+    ensures served { OnOk result (ServesAfterClosing floor) }
+    ensures status { IfOk result (λ status. status ≡ 0) }
+    ensures err { IfErr result IsOfHub }
+{
     let teams = floor.placement().frame().teams.len() + 1;
     let mut floor = TeamFloor::new(floor);
     let time = time_of(host.clock());
@@ -35,21 +80,47 @@ fn serve_floor<'a, H: HubHost>(
         return Err(serving_fault(input.journal, failure));
     }
     let doors = doors_of(alloc, sockets)?;
-    let wire = match host.listen(input.sockets, doors.as_slice()) {
-        Ok(wire) => wire,
-        Err(error) => return Err(socket_fault(input.sockets, &error)),
-    };
-    let mut server = Server {
-        core: Core::new(alloc, teams)?,
-        floor,
-        wire,
-    };
-    host.tell("ready: clients may connect");
-    match serve_hub(alloc, host.clock(), &mut server, journal) {
-        Ending::Stopped => Ok(0),
-        Ending::Failed(failure) => Err(serving_fault(input.journal, failure)),
-        Ending::Spent => Ok(0),
+    match host.listen(input.sockets, doors.as_slice()) {
+        Ok(wire) => {
+            host.tell("ready: clients may connect");
+            serve_wire(
+                alloc,
+                host.clock(),
+                floor,
+                teams,
+                wire,
+                journal,
+                input.journal,
+            )
+        }
+        Err(error) => Err(socket_fault(input.sockets, &error)),
     }
+}
+
+/// Runs the journal on the floor, and serves the clients of these sockets over it.
+fn serve_restored<'a, H: HubHost, T: InputFiles>(
+    alloc: Global,
+    texts: &T,
+    host: &H,
+    floor: Floor<IndexSeeker>,
+    sockets: &[TeamSocket],
+    input: HubInput<'a>,
+) -> Result<u8, Fault<'a>>
+    ensures served { OnOk result (ServesRestored input.entry.design.limits (T.gives texts.now)
+        input.entry.design.def.now (map (λ lef. lef.now) input.entry.design.lefs.now)
+        (path_of input.entry.design.state) floor) }
+    ensures status { IfOk result (λ status. status ≡ 0) }
+    ensures err { IfErr result IsOfHub }
+{
+    let mut floor = floor;
+    let due = due_beginning(alloc, texts, input)?;
+    let segment = match host.open_segment(input.journal) {
+        Ok(segment) => segment,
+        Err(error) => return Err(journal_fault(input.journal, &error)),
+    };
+    let time = time_of(host.clock());
+    let mut journal = open_journal(alloc, time, segment, &mut floor, &due, input.journal)?;
+    serve_floor(alloc, host, floor, &mut journal, sockets, input)
 }
 
 /// Serves the clients of a hub over the design of files, until the operator stops it. Returns the exit
@@ -62,19 +133,20 @@ pub fn serve_hub_files<'a, T: InputFiles, H: HubHost>(
     texts: &T,
     host: &H,
     input: HubInput<'a>,
-) -> Result<u8, Fault<'a>> {
+) -> Result<u8, Fault<'a>>
+    ensures served { OnOk result (IsHubServed input.entry.design.limits (T.gives texts.now)
+        input.entry.design.def.now (map (λ lef. lef.now) input.entry.design.lefs.now)
+        (path_of input.entry.design.state)) }
+    ensures status { IfOk result (λ status. status ≡ 0) }
+    ensures err { IfErr result (IsHubFault input.entry.design.limits (T.gives texts.now)
+        input.entry.design.def.now (map (λ lef. lef.now) input.entry.design.lefs.now)
+        (path_of input.entry.design.state)) }
+{
     let design = input.design;
     let OpenedDesign { loaded, .. } =
         open_design(alloc, design.limits, texts, design.def, design.lefs, false)?;
-    let mut floor = open_floor(alloc, texts, loaded, design.state)?;
+    let floor = open_floor(alloc, texts, loaded, design.state)?;
     all_known(&floor, input.teams)?;
     let sockets = sockets_of(alloc, &floor, input.teams)?;
-    let segment = match host.open_segment(input.journal) {
-        Ok(segment) => segment,
-        Err(error) => return Err(journal_fault(input.journal, &error)),
-    };
-    let time = time_of(host.clock());
-    let mut journal = open_journal(alloc, texts, time, segment, &mut floor, input)?;
-    host.tell("the journal is restored");
-    serve_floor(alloc, host, floor, &mut journal, sockets.as_slice(), input)
+    serve_restored(alloc, texts, host, floor, sockets.as_slice(), input)
 }

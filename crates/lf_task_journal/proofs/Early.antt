@@ -19,11 +19,11 @@ lefs_early gives [] fault memory = subst IsEarly (sym memory) tt
 lefs_early gives (path ∷ paths) fault (inl unread) = unread_early gives Lef path fault unread
 lefs_early gives (path ∷ paths) fault (inr later) = lefs_early gives paths fault later
 
-line_early : (gives : ReadsFile) (def : List ℕ) (lefs : List (List ℕ)) (fault : Fault) → IsLineUnread gives def lefs fault → IsEarly fault
+pub line_early : (gives : ReadsFile) (def : List ℕ) (lefs : List (List ℕ)) (fault : Fault) → IsLineUnread gives def lefs fault → IsEarly fault
 line_early gives def lefs fault (inl unread) = unread_early gives Def def fault unread
 line_early gives def lefs fault (inr later) = lefs_early gives lefs fault later
 
-name_early : (gives : ReadsFile) (state : Option (List ℕ)) (fault : Fault) → IsStateUnread gives state fault → IsEarly fault
+pub name_early : (gives : ReadsFile) (state : Option (List ℕ)) (fault : Fault) → IsStateUnread gives state fault → IsEarly fault
 name_early gives None fault memory = subst IsEarly (sym memory) tt
 name_early gives (Some path) fault unread = unread_early gives State path fault unread
 
