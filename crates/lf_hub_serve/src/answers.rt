@@ -18,7 +18,7 @@ const ROUND: u128 = 4;
 const TURNS: u32 = 100_000;
 
 /// The bytes of records after which no more lines are answered in a round. A batch has room for
-/// 100,000 bytes.
+/// 99,999 bytes.
 const RECORDS: usize = 65_536;
 
 /// Returns whether the time of a round is over. It is not if the clock cannot be read.

@@ -30,25 +30,32 @@ pub(crate) fn hang_up<F: Floor, W: Wire>(
     Ok(())
 }
 
-/// Sends the client in a slot what may be sent. A client whose connection has failed leaves.
-fn send_client<F: Floor, W: Wire>(server: &mut Server<F, W>, slot: usize) -> Result<(), AllocError>
+/// Sends the client in a slot what may be sent. A client whose connection has failed leaves. Returns
+/// whether there was anything to do.
+fn send_client<F: Floor, W: Wire>(
+    server: &mut Server<F, W>,
+    slot: usize,
+) -> Result<bool, AllocError>
     ensures ok { OnOk result (GoesOn (IsAnswered F.answers F.shows) W.calls server.old server.new) }
     ensures records { server.new.core.hub.records ≡ server.old.core.hub.records }
     ensures err { OnErr result (BreaksOff (IsAnswered F.answers F.shows) W.calls server.old server.new) }
 {
     let Some(client) = server.core.client(slot) else {
-        return Ok(());
+        return Ok(false);
     };
     if client.ready().is_empty() {
-        return Ok(());
+        return Ok(false);
     }
     match server.wire.write(client.number(), client.ready()) {
         Outgoing::Bytes { count } => {
             server.core.sends(slot, count)?;
-            Ok(())
+            Ok(true)
         }
-        Outgoing::Nothing => Ok(()),
-        Outgoing::Failed => hang_up(server, slot),
+        Outgoing::Nothing => Ok(false),
+        Outgoing::Failed => {
+            hang_up(server, slot)?;
+            Ok(true)
+        }
     }
 }
 
@@ -83,30 +90,36 @@ fn end_client<F: Floor, W: Wire>(server: &mut Server<F, W>, slot: usize) -> Resu
 }
 
 /// Sends the client in a slot what may be sent, and ends it if nothing is left to do for it. Returns
-/// whether there is such a slot.
-fn serve_slot<F: Floor, W: Wire>(server: &mut Server<F, W>, slot: usize) -> Result<bool, AllocError>
+/// whether there was anything to do. `None` if there is no such slot.
+fn serve_slot<F: Floor, W: Wire>(
+    server: &mut Server<F, W>,
+    slot: usize,
+) -> Result<Option<bool>, AllocError>
     ensures ok { OnOk result (GoesOn (IsAnswered F.answers F.shows) W.calls server.old server.new) }
     ensures records { server.new.core.hub.records ≡ server.old.core.hub.records }
     ensures err { OnErr result (BreaksOff (IsAnswered F.answers F.shows) W.calls server.old server.new) }
 {
     if server.core.client(slot).is_none() {
-        return Ok(false);
+        return Ok(None);
     }
-    send_client(server, slot)?;
+    let was_sent = send_client(server, slot)?;
     end_client(server, slot)?;
-    Ok(true)
+    Ok(Some(was_sent))
 }
 
-/// Sends all clients what may be sent, and ends those for which nothing is left to do.
-pub(crate) fn send_replies<F: Floor, W: Wire>(server: &mut Server<F, W>) -> Result<(), AllocError>
+/// Sends all clients what may be sent, and ends those for which nothing is left to do. Returns whether
+/// there was anything to do. If there was, more lines may be answered now.
+pub(crate) fn send_replies<F: Floor, W: Wire>(server: &mut Server<F, W>) -> Result<bool, AllocError>
     ensures ok { OnOk result (GoesOn (IsAnswered F.answers F.shows) W.calls server.old server.new) }
     ensures records { server.new.core.hub.records ≡ server.old.core.hub.records }
     ensures err { OnErr result (BreaksOff (IsAnswered F.answers F.shows) W.calls server.old server.new) }
 {
+    let mut is_busy = false;
     for slot in 0..usize::MAX {
-        if !serve_slot(server, slot)? {
-            return Ok(());
+        match serve_slot(server, slot)? {
+            Some(was_sent) => is_busy |= was_sent,
+            None => return Ok(is_busy),
         }
     }
-    Ok(())
+    Ok(is_busy)
 }

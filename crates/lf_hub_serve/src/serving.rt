@@ -78,8 +78,8 @@ fn serve_round<F: Floor, W: Wire, D: Disk>(
 {
     let is_busy = gather(clock, server, buffer, limit)?;
     save(alloc, clock, server, journal, slots)?;
-    send_replies(server)?;
-    Ok(is_busy)
+    let was_sent = send_replies(server)?;
+    Ok(is_busy | was_sent)
 }
 
 /// Serves rounds until the operator stops the hub, or something fails.

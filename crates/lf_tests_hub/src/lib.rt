@@ -1,8 +1,7 @@
 //! Tests of the core of a hub: what no clause says of it.
 //!
-//! The tests cover `lf_hub_clients`, `lf_hub_turns`, `lf_hub`, `lf_hub_wire` and
-//! `lf_hub_serve`. Their floor is a counter,
-//! and their wire is a script.
+//! The tests cover `lf_hub_clients`, `lf_hub_turns`, `lf_hub`, `lf_hub_wire` and `lf_hub_serve`. Their
+//! floor is a counter, and their wire is a script.
 //!
 //! Modules, in reading order:
 //!

@@ -13,15 +13,15 @@ loop-slot-init g c =
 pub loop-slot-preserved : goal.loop-slot-preserved
 loop-slot-preserved g c = record {
   served = serves_then (IsAnswered g.F.Floor.answers g.F.Floor.shows) (service_of g.W.Wire.calls c.args.server.now []) (service_of g.W.Wire.calls c.loop-slot.server [])
-      (service_of g.W.Wire.calls c.serve_slot.new.server []) c.loop-slot.invariant.served c.in_ok-serve_slot.ensures.ok;
+      (service_of g.W.Wire.calls c.serve_slot.new.server []) c.loop-slot.invariant.served c.in_ok-was_sent.ensures.ok;
   records = c.serve_slot.ensures.records ∙ c.loop-slot.invariant.records;
 }
 
-pub returns-then-not-branch-clause-ok : goal.returns-then-not-branch-clause-ok
-returns-then-not-branch-clause-ok g c =
-    serves_then (IsAnswered g.F.Floor.answers g.F.Floor.shows) (service_of g.W.Wire.calls c.args.server.now []) (service_of g.W.Wire.calls c.loop-slot.server []) (service_of g.W.Wire.calls c.serve_slot.new.server []) c.loop-slot.invariant.served c.in_ok-serve_slot.ensures.ok
+pub returns-in-None-clause-ok : goal.returns-in-None-clause-ok
+returns-in-None-clause-ok g c =
+    serves_then (IsAnswered g.F.Floor.answers g.F.Floor.shows) (service_of g.W.Wire.calls c.args.server.now []) (service_of g.W.Wire.calls c.loop-slot.server []) (service_of g.W.Wire.calls c.serve_slot.new.server []) c.loop-slot.invariant.served c.in_ok-was_sent.ensures.ok
 
-pub returns-in_err-serve_slot-clause-err : goal.returns-in_err-serve_slot-clause-err
-returns-in_err-serve_slot-clause-err g c =
+pub returns-in_err-was_sent-clause-err : goal.returns-in_err-was_sent-clause-err
+returns-in_err-was_sent-clause-err g c =
     let p = err_from_is_err_and c.from_residual.result c.from_residual.ensures.1 in
-    rw p.1 (serves_breaks (IsAnswered g.F.Floor.answers g.F.Floor.shows) (service_of g.W.Wire.calls c.args.server.now []) (service_of g.W.Wire.calls c.loop-slot.server []) (service_of g.W.Wire.calls c.serve_slot.new.server []) c.loop-slot.invariant.served c.in_err-serve_slot.ensures.err)
+    rw p.1 (serves_breaks (IsAnswered g.F.Floor.answers g.F.Floor.shows) (service_of g.W.Wire.calls c.args.server.now []) (service_of g.W.Wire.calls c.loop-slot.server []) (service_of g.W.Wire.calls c.serve_slot.new.server []) c.loop-slot.invariant.served c.in_err-was_sent.ensures.err)

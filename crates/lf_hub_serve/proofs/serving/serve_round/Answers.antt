@@ -19,7 +19,7 @@ returns-clause-ok g c =
       records,
       serves_then takes (service_of calls c.args.server.now []) (service_of calls gathered []) (service_of calls sent records) c.in_ok-is_busy.ensures.ok
           (serves_then takes (service_of calls gathered []) (service_of calls saved records) (service_of calls sent records) c.in_ok-save.ensures.ok
-          (serves_with takes records saved.core.hub sent.core.hub saved.floor sent.floor (calls saved.wire) (calls sent.wire) c.in_ok-send_replies.ensures.ok)),
+          (serves_with takes records saved.core.hub sent.core.hub saved.floor sent.floor (calls saved.wire) (calls sent.wire) c.in_ok-was_sent.ensures.ok)),
       c.in_ok-save.ensures.saved,
     )
 
@@ -53,9 +53,9 @@ returns-in_err-save-clause-err g c =
           (subst (λ (l : List ℕ). KeepsRecords (records_of_file (g.D.Disk.seen journal.disk)) l f) (sym records) (c.save.ensures.any_moment clean f left)),
     )
 
-pub returns-in_err-send_replies-clause-err : goal.returns-in_err-send_replies-clause-err
-returns-in_err-send_replies-clause-err g c =
-    let p = err_from_is_err_and c.from_residual-in_err-send_replies.result c.from_residual-in_err-send_replies.ensures.1 in
+pub returns-in_err-was_sent-clause-err : goal.returns-in_err-was_sent-clause-err
+returns-in_err-was_sent-clause-err g c =
+    let p = err_from_is_err_and c.from_residual-in_err-was_sent.result c.from_residual-in_err-was_sent.ensures.1 in
     let takes = IsAnswered g.F.Floor.answers g.F.Floor.shows in
     let calls = g.W.Wire.calls in
     let gathered = c.gather.new.server in
@@ -68,7 +68,7 @@ returns-in_err-send_replies-clause-err g c =
       records,
       serves_breaks takes (service_of calls c.args.server.now []) (service_of calls gathered []) (service_of calls sent records) c.in_ok-is_busy.ensures.ok
           (serves_breaks takes (service_of calls gathered []) (service_of calls saved records) (service_of calls sent records) c.in_ok-save.ensures.ok
-          (breaks_with takes records saved.core.hub sent.core.hub saved.floor sent.floor (calls saved.wire) (calls sent.wire) c.in_err-send_replies.ensures.err)),
+          (breaks_with takes records saved.core.hub sent.core.hub saved.floor sent.floor (calls saved.wire) (calls sent.wire) c.in_err-was_sent.ensures.err)),
       λ clean f left. subst (λ (r : List ℕ). KeepsRecords r last f) (c.in_ok-save.ensures.saved clean)
           (settled_keeps g.D.Disk.seen g.D.Disk.may_leave journal.disk journal.end journal.len last f (c.in_ok-save.ensures.settled clean) left),
     )
