@@ -248,15 +248,23 @@ fn needed_text<'a>(alloc: Global, name: &'a str) -> Arg<'a>
     text(alloc, name).required(true)
 }
 
+/// Declares the subcommand that serves many clients, with the options that it needs.
+fn hub_in_folders<'a>(alloc: Global) -> Result<Command<'a>, AllocError>
+    ensures line { IfOk result (λ made. app_of made
+        ≡ design_line (codes "hub") (needed (text_rule (codes "sockets")) ∷ needed (text_rule (codes "journal")) ∷ [])) }
+    ensures local { IfOk result (λ made. (out-Command made).has_globals ≡ false) }
+{
+    over_design(alloc, "hub")?
+        .arg(needed_text(alloc, "sockets"))?
+        .arg(needed_text(alloc, "journal"))
+}
+
 /// Declares the subcommand that serves many clients.
 fn hub<'a>(alloc: Global) -> Result<Command<'a>, AllocError>
     ensures line { IfOk result (λ made. app_of made ≡ line_of Hub) }
     ensures local { IfOk result (λ made. (out-Command made).has_globals ≡ false) }
 {
-    let command = over_design(alloc, "hub")?
-        .arg(needed_text(alloc, "sockets"))?
-        .arg(needed_text(alloc, "journal"))?;
-    command
+    hub_in_folders(alloc)?
         .arg(repeated(alloc, "team"))?
         .arg(text(alloc, "begin"))?
         .arg(slots(alloc))
