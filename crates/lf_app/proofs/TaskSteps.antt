@@ -3,12 +3,12 @@ use Rattle.std.proofs.Common.{◌≡◌, ◌⊎◌, ◌∙◌, arith, ap, inl, i
 use Rattle.std.specs.Prelude.{IfErr, IfOk, Result}
 use Rattle.std.proofs.lemmas.Result.{IfErr-weaker}
 use Rattle.lf_cli.specs.declared.parse.Task.{Task}
-use Rattle.lf_cli.specs.declared.parse.Task.TheVariants.{Demo, Replay, Serve, Check, Describe, Improve, Repair, Wirelength}
-use Rattle.lf_cli.specs.Command.{Job, ReadsNone, RepairPaths, repair_paths, as_job, check, demo, describe, improve, repair, replay, serve, wirelength}
+use Rattle.lf_cli.specs.declared.parse.Task.TheVariants.{Demo, Replay, Serve, Hub as HubTask, Check, Describe, Improve, Repair, Wirelength}
+use Rattle.lf_cli.specs.Command.{Job, ReadsNone, RepairPaths, repair_paths, as_job, check, demo, describe, hub, improve, repair, replay, serve, wirelength}
 use Rattle.lf_task_faults.specs.declared.faults.Fault.{Fault}
 use Rattle.lf_task_faults.specs.declared.faults.Fault.TheVariants.{Refused, File, RefusedState, RefusedJournal, NoTeam, RefusedTeam, TeamDiffers, SliceDiffers, ReadFault, WriteFault, TooManyLines, OutOfMemory, Output, Bind, Accept, Hub, NotWritten, SetupOutOfMemory, OutputOutOfMemory}
 use Rattle.lf_task_designs.specs.Designs.{ReadsFile}
-use Rattle.lf_task_faults.specs.Faults.{status_of}
+use Rattle.lf_task_faults.specs.Faults.{BlamesDevices, status_of}
 use Rattle.lf_app.specs.Exits.{IsJobOutcome}
 use Rattle.lf_task_serve.specs.Exits.{Streams}
 use Rattle.lf_task_serve.specs.Surroundings.{Io, IsSound}
@@ -17,6 +17,8 @@ use Rattle.std.specs.Borrow.{Bor}
 use Rattle.lf_floorplan.specs.declared.limits.Limits.{Limits}
 use Rattle.lf_io.specs.Shelf.{Put}
 use Rattle.lf_task_files.specs.Inputs.{path_of}
+use Rattle.lf_task_files.proofs.WorkSteps.{early_blames}
+use Rattle.lf_task_hub.specs.Hubs.{IsFailure, IsOfHub}
 use Rattle.lf_task_files.specs.declared.inputs.DesignInput.{DesignInput}
 use Rattle.lf_task_run.specs.Tasks.{IsTaskDone, IsTaskNotDone, Means, Request, request_of}
 use Rattle.lf_task_run.specs.Outputs.{BlamesOutputs}
@@ -57,6 +59,7 @@ pub succeeds : (gives : ReadsFile) (job : Job) (io : Streams) (status : ℕ) →
 succeeds gives demo io status (limits, slots, is) = inl is.3
 succeeds gives (replay def lefs state number journal lines save export) io status (limits, slots, is) = inl is.1
 succeeds gives (serve def lefs state number port connections save export) io status (limits, slots, is) = inl is.1
+succeeds gives (hub def lefs begin number teams sockets journal) io status (limits, slots, is) = inl is.1
 succeeds gives (check def lefs state number committed) io status (limits, slots, is) = is.2.done
 succeeds gives (describe def lefs state number) io status (limits, slots, is) = is.shown.2.done
 succeeds gives (wirelength def lefs state number) io status (limits, slots, is) = inl is.3
@@ -74,6 +77,8 @@ checked gives (Replay def lefs state number journal lines save export) io status
     let zero : status ≡ 0 = is.1 in absurd (omega (arith, zero, four))
 checked gives (Serve def lefs state number port connections save export) io status (limits, slots, is) four =
     let zero : status ≡ 0 = is.1 in absurd (omega (arith, zero, four))
+checked gives (HubTask def lefs begin number teams sockets journal) io status (limits, slots, is) four =
+    let zero : status ≡ 0 = is.1 in absurd (omega (arith, zero, four))
 checked gives (Check def lefs state number committed) io status is four = tt
 checked gives (Describe def lefs state number) io status is four = tt
 checked gives (Wirelength def lefs state number) io status is four = tt
@@ -90,6 +95,46 @@ stops_untouched r nothing work also more same untouched is keeps gives =
     by : (fault : Fault) → (nothing fault × same) ⊎ work fault → (nothing fault × untouched) ⊎ work fault
     by fault (inl none) = inl (none.0, keeps none.1)
     by fault (inr some) = inr some
+
+-- ---- hubs
+
+-- A failure of a hub blames none of these devices.
+failure_blames : (kept reader writer export service sound : Type 0) (fault : Fault) → IsFailure fault
+    → BlamesDevices fault kept reader writer export service sound
+failure_blames kept reader writer export service sound (Refused file its) is = absurd is
+failure_blames kept reader writer export service sound (File file why) is = absurd is
+failure_blames kept reader writer export service sound (RefusedState path its) is = absurd is
+failure_blames kept reader writer export service sound (RefusedJournal path its) is = absurd is
+failure_blames kept reader writer export service sound (NoTeam name) is = absurd is
+failure_blames kept reader writer export service sound (RefusedTeam name cause) is = absurd is
+failure_blames kept reader writer export service sound (TeamDiffers differing team) is = absurd is
+failure_blames kept reader writer export service sound SliceDiffers is = absurd is
+failure_blames kept reader writer export service sound ReadFault is = absurd is
+failure_blames kept reader writer export service sound WriteFault is = absurd is
+failure_blames kept reader writer export service sound TooManyLines is = absurd is
+failure_blames kept reader writer export service sound OutOfMemory is = absurd is
+failure_blames kept reader writer export service sound Output is = absurd is
+failure_blames kept reader writer export service sound (Bind port why) is = absurd is
+failure_blames kept reader writer export service sound Accept is = absurd is
+failure_blames kept reader writer export service sound (Hub folder why) is = record {
+  early = λ of. absurd of;
+  reading = λ same. absurd (subst IsFailure same tt);
+  writing = λ of. absurd of;
+  exporting = λ of. absurd of;
+  serving = λ of. absurd of;
+  sparing = λ of. absurd of;
+}
+failure_blames kept reader writer export service sound (NotWritten its_kind path why) is = absurd is
+failure_blames kept reader writer export service sound SetupOutOfMemory is = absurd is
+failure_blames kept reader writer export service sound OutputOutOfMemory is = absurd is
+
+-- Nor does a fault before a client is served.
+pub hub_blames : (kept reader writer export service sound : Type 0) (fault : Fault) → kept → sound → IsOfHub fault
+    → BlamesDevices fault kept reader writer export service sound
+hub_blames kept reader writer export service sound fault keeps sounds (inl early) =
+    early_blames kept reader writer export service sound fault keeps sounds early
+hub_blames kept reader writer export service sound fault keeps sounds (inr failure) =
+    failure_blames kept reader writer export service sound fault failure
 
 -- ---- jobs on a floor
 

@@ -40,8 +40,7 @@ fn serve_wire<'a, W: Wire + Drop, D: Disk>(
     requires usable { IsTrue (D.Disk.is_usable journal.old.disk) }
     requires settled { IsTrue (D.Disk.is_clean journal.old.disk)
         → IsSettled D.Disk.seen D.Disk.may_leave journal.old.disk journal.old.end journal.old.len }
-    ensures served { OnOk result (ServesFrom floor) }
-    ensures status { IfOk result (λ status. status ≡ 0) }
+    ensures ok { IfOk result (λ status. ServesFrom floor × (status ≡ 0)) }
     ensures err { IfErr result IsOfHub }
 {
     let Ok(core) = Core::new(alloc, teams) else {
@@ -68,8 +67,7 @@ fn serve_floor<'a, H: HubHost>(
     requires usable { IsTrue (H.Segment.Disk.is_usable journal.old.disk) }
     requires settled { IsTrue (H.Segment.Disk.is_clean journal.old.disk)
         → IsSettled H.Segment.Disk.seen H.Segment.Disk.may_leave journal.old.disk journal.old.end journal.old.len }
-    ensures served { OnOk result (ServesAfterClosing floor) }
-    ensures status { IfOk result (λ status. status ≡ 0) }
+    ensures ok { IfOk result (λ status. ServesAfterClosing floor × (status ≡ 0)) }
     ensures err { IfErr result IsOfHub }
 {
     let teams = floor.placement().frame().teams.len() + 1;
@@ -106,10 +104,9 @@ fn serve_restored<'a, H: HubHost, T: InputFiles>(
     sockets: &[TeamSocket],
     input: HubInput<'a>,
 ) -> Result<u8, Fault<'a>>
-    ensures served { OnOk result (ServesRestored input.entry.design.limits (T.gives texts.now)
+    ensures ok { IfOk result (λ status. ServesRestored input.entry.design.limits (T.gives texts.now)
         input.entry.design.def.now (map (λ lef. lef.now) input.entry.design.lefs.now)
-        (path_of input.entry.design.state) floor) }
-    ensures status { IfOk result (λ status. status ≡ 0) }
+        (path_of input.entry.design.state) floor × (status ≡ 0)) }
     ensures err { IfErr result IsOfHub }
 {
     let mut floor = floor;
@@ -134,13 +131,12 @@ pub fn serve_hub_files<'a, T: InputFiles, H: HubHost>(
     host: &H,
     input: HubInput<'a>,
 ) -> Result<u8, Fault<'a>>
-    ensures served { OnOk result (IsHubServed input.entry.design.limits (T.gives texts.now)
+    ensures ok { IfOk result (λ status. IsHubServed input.entry.design.limits (T.gives texts.now)
         input.entry.design.def.now (map (λ lef. lef.now) input.entry.design.lefs.now)
-        (path_of input.entry.design.state)) }
-    ensures status { IfOk result (λ status. status ≡ 0) }
-    ensures err { IfErr result (IsHubFault input.entry.design.limits (T.gives texts.now)
+        (path_of input.entry.design.state) × (status ≡ 0)) }
+    ensures err { IfErr result (λ fault. IsHubFault input.entry.design.limits (T.gives texts.now)
         input.entry.design.def.now (map (λ lef. lef.now) input.entry.design.lefs.now)
-        (path_of input.entry.design.state)) }
+        (path_of input.entry.design.state) fault × IsOfHub fault) }
 {
     let design = input.design;
     let OpenedDesign { loaded, .. } =

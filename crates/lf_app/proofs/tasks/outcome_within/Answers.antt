@@ -6,7 +6,7 @@ use Rattle.lf_task_run.specs.Outputs.{BlamesOutputs, WritesExportAlone, WritesNo
 use Rattle.lf_task_run.specs.Tasks.{request_of}
 use Rattle.lf_task_repair.specs.Repairs.{repair_means}
 use Rattle.lf_task_improve.specs.Works.{improve_means}
-use Rattle.lf_app.proofs.TaskSteps.{done_at, not_done_at, requested_at, sound_by, stops_untouched}
+use Rattle.lf_app.proofs.TaskSteps.{done_at, hub_blames, not_done_at, requested_at, sound_by, stops_untouched}
 use Rattle.lf_app.proofs.tasks.outcome_within.Goals as goal
 
 pub returns-in-Replay-clause-ok : goal.returns-in-Replay-clause-ok
@@ -34,6 +34,18 @@ returns-in-Serve-clause-err g c =
     rw c.in-Serve.is (also_fails c.serve_files-in-Serve.result _ _ _
     (rw (i.def_is, i.lefs_are, i.state_is, i.limits_are, o.save_is, o.export_is) at c.serve_files-in-Serve.ensures.err)
     (λ fault blames. blames_as fault _ _ _ _ _ _ _ _ _ _ _ _ blames (λ k. k) (λ none. absurd none) (λ w. w) (λ e. e) (λ s. s) (λ n. n)))
+
+pub returns-in-Hub-clause-ok : goal.returns-in-Hub-clause-ok
+returns-in-Hub-clause-ok g c =
+    let i = rw c.in-Hub.is at c.input_of-inputs.ensures in
+    rw c.in-Hub.is (rw (c.hub_at-input.ensures.design, i.def_is, i.lefs_are, i.state_is, i.limits_are) at c.serve_hub_files.ensures.ok)
+
+pub returns-in-Hub-clause-err : goal.returns-in-Hub-clause-err
+returns-in-Hub-clause-err g c =
+    let i = rw c.in-Hub.is at c.input_of-inputs.ensures in
+    rw c.in-Hub.is (also_fails c.serve_hub_files.result _ _ _
+    (rw (c.hub_at-input.ensures.design, i.def_is, i.lefs_are, i.state_is, i.limits_are) at c.serve_hub_files.ensures.err)
+    (λ fault of. hub_blames _ _ _ _ _ _ fault refl (record { exports = refl; services = refl; reader = refl; writer = refl }) of))
 
 pub returns-in-Check-clause-ok : goal.returns-in-Check-clause-ok
 returns-in-Check-clause-ok g c =
