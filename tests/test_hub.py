@@ -278,6 +278,15 @@ class Refusals(Hubs):
         self.assertEqual((status, said[-1]), (3, f"lefence: a socket in {self.sockets} fails: it is in use"))
         self.assertEqual(self.peer("A.sock").ask("open A"), "ok 0 0")
 
+    def test_a_journal_that_another_hub_uses(self) -> None:
+        self.start()
+        other = self.folder / "other"
+        other.mkdir()
+        words = ["hub", *DESIGN, "--sockets", str(other), "--journal", str(self.journal)]
+        expected = ["lefence: Hub", f"lefence: the journal in {self.journal} fails: another hub uses it"]
+        self.assertEqual(self.refused(words), (3, expected))
+        self.assertEqual(list(other.iterdir()), [])
+
     def test_an_unknown_team(self) -> None:
         status, said = self.refused([*self.words, "--team", "X"])
         self.assertEqual((status, said), (1, ["lefence: NoTeam", "lefence: team X is not in the design"]))

@@ -15,8 +15,13 @@ pub trait HubHost {
     type Segment: Disk + Drop;
     /// The connections of clients and of the operator.
     type Sockets: Wire + Drop;
+    /// What keeps other hubs away from a journal, as long as it lives.
+    type Lock: Drop;
     /// What tells the time.
     type Clock: Clock;
+
+    /// Locks the journal in a folder. `Ok(None)` if another hub has locked it.
+    fn lock(&self, folder: &str) -> io::Result<Option<Self::Lock>>;
 
     /// Opens the segment of the journal in a folder, or makes it if there is none.
     fn open_segment(&self, folder: &str) -> io::Result<Self::Segment>

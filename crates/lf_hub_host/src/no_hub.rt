@@ -26,7 +26,13 @@ impl HubHost for NoHub {
 
     type Sockets = Sockets<'static>;
 
+    type Lock = NoHub;
+
     type Clock = NoHub;
+
+    fn lock(&self, _folder: &str) -> io::Result<Option<NoHub>> {
+        Err(ErrorKind::Unsupported.into())
+    }
 
     fn open_segment(&self, _folder: &str) -> io::Result<SegmentFile<Unknown>> {
         Err(ErrorKind::Unsupported.into())

@@ -3,6 +3,7 @@
 use crate::host::HubHost;
 use lf_hub_wire::{Door, Sockets};
 use lf_journal_file::{SegmentFile, Unknown, open_file};
+use std::fs::{File, OpenOptions, TryLockError};
 use std::io;
 
 /// The most clients at once.
@@ -26,7 +27,22 @@ impl<'a> HubHost for ProcessHost<'a> {
 
     type Sockets = Sockets<'a>;
 
+    type Lock = File;
+
     type Clock = HostRuntime;
+
+    fn lock(&self, folder: &str) -> io::Result<Option<File>> {
+        let path = format!(in self.rt.alloc(); "{folder}/lock")?;
+        let file = OpenOptions::new()
+            .write(true)
+            .create(true)
+            .open(self.rt, path.as_str())?;
+        match file.try_lock() {
+            Ok(()) => Ok(Some(file)),
+            Err(TryLockError::WouldBlock) => Ok(None),
+            Err(TryLockError::Error(error)) => Err(error),
+        }
+    }
 
     fn open_segment(&self, folder: &str) -> io::Result<SegmentFile<Unknown>> {
         let path = format!(in self.rt.alloc(); "{folder}/segment")?;

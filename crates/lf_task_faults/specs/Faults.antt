@@ -318,6 +318,7 @@ text_refusal_words file refusal =
 -- Which part of a hub fails, and its folder.
 abbrev pub hub_part_words : List ℕ → HubFailure → List ℕ
 hub_part_words folder (hub.Journal why) = codes "the journal in " ++ shown_bytes folder
+hub_part_words folder hub.InUse = codes "the journal in " ++ shown_bytes folder
 hub_part_words folder (hub.Socket why) = codes "a socket in " ++ shown_bytes folder
 
 -- The file, path, port or team at fault.
@@ -375,6 +376,7 @@ unwritable_words unwritable.Other = []
 -- Why a part of a hub fails.
 abbrev pub hub_failure_words : HubFailure → List ℕ
 hub_failure_words (hub.Journal why) = unwritable_words why
+hub_failure_words hub.InUse = codes ": another hub uses it"
 hub_failure_words (hub.Socket why) = unbound_words why
 
 -- The reason of the fault, if the system reports it.

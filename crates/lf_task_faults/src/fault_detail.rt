@@ -449,6 +449,7 @@ fn put_hub_part<W: Sink>(sink: &mut W, folder: &str, why: HubFailure) -> Result<
 {
     match why {
         HubFailure::Journal(_) => send(sink, b"the journal in ")?,
+        HubFailure::InUse => send(sink, b"the journal in ")?,
         HubFailure::Socket(_) => send(sink, b"a socket in ")?,
     }
     put_shown(sink, folder.as_bytes())
@@ -546,6 +547,7 @@ fn hub_failure_words(why: HubFailure) -> &'static [u8]
 {
     match why {
         HubFailure::Journal(why) => unwritable_words(why),
+        HubFailure::InUse => b": another hub uses it",
         HubFailure::Socket(why) => unbound_words(why),
     }
 }

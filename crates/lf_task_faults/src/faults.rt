@@ -58,6 +58,8 @@ pub enum OutputKind {
 pub enum HubFailure {
     /// Its journal in this folder cannot be read or written.
     Journal(WriteFailureKind),
+    /// Another hub uses the journal in this folder.
+    InUse,
     /// A socket in this folder cannot be made.
     Socket(BindFailure),
 }

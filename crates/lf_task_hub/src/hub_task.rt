@@ -19,7 +19,7 @@ use lf_hub_wire::Wire;
 use lf_journal::Journal;
 use lf_legalize::IndexSeeker;
 use lf_task_designs::{InputFiles, OpenedDesign, open_design};
-use lf_task_faults::Fault;
+use lf_task_faults::{Fault, HubFailure};
 use lf_task_files::open_floor;
 use lf_task_run::all_known;
 use sqlite_disk::Disk;
@@ -95,6 +95,17 @@ fn serve_floor<'a, H: HubHost>(
     }
 }
 
+/// Locks the journal in this folder. `Err` if another hub has locked it, or if the system refuses.
+fn lock_journal<'a, H: HubHost>(host: &H, folder: &'a str) -> Result<H::Lock, Fault<'a>>
+    ensures { IfErr result IsOfHub }
+{
+    match host.lock(folder) {
+        Ok(Some(lock)) => Ok(lock),
+        Ok(None) => Err(Fault::Hub(folder, HubFailure::InUse)),
+        Err(error) => Err(journal_fault(folder, &error)),
+    }
+}
+
 /// Runs the journal on the floor, and serves the clients of these sockets over it.
 fn serve_restored<'a, H: HubHost, T: InputFiles>(
     alloc: Global,
@@ -111,6 +122,7 @@ fn serve_restored<'a, H: HubHost, T: InputFiles>(
 {
     let mut floor = floor;
     let due = due_beginning(alloc, texts, input)?;
+    let _lock = lock_journal(host, input.journal)?;
     let segment = match host.open_segment(input.journal) {
         Ok(segment) => segment,
         Err(error) => return Err(journal_fault(input.journal, &error)),
