@@ -4,9 +4,8 @@
 ghost use Rattle.std.specs.Prelude.{◌≡◌, false};
 
 use lf_app::{
-    Acceptor, BindFailure, ClientReader, ClientWriter, Connection, Environment, InputFiles,
-    NoHub, NoProgress, PortListener, ReadFailure, ServiceConfig, Slots, Task, perform_over,
-    single_chunk,
+    Acceptor, BindFailure, ClientReader, ClientWriter, Connection, Environment, InputFiles, NoHub,
+    NoProgress, PortListener, ReadFailure, ServiceConfig, Slots, Task, perform_over, single_chunk,
 };
 use lf_io::{DeviceFault, FromRead, OutputFiles, TextSource, ToWrite, WriteFailure};
 use lf_units::Sequence;

@@ -75,8 +75,9 @@ pub use lf_io::{FromRead, FsOutputFiles, ToWrite};
 pub use lf_server::{Acceptor, ClientReader, ClientWriter, Connection, ServiceConfig};
 pub use lf_task_designs::{FsInputFiles, InputFiles, single_chunk};
 pub use lf_task_faults::{
-    BindFailure, Compression, Fault, FenceLine, Hint, HubFailure, OutputKind, ReadFailure, ReadFailureKind,
-    Remark, StateRefusal, TaskExit, TextFile, TextKind, TextRefusal, status_of, write_fault,
+    BindFailure, Compression, Fault, FenceLine, Hint, HubFailure, OutputKind, ReadFailure,
+    ReadFailureKind, Remark, StateRefusal, TaskExit, TextFile, TextKind, TextRefusal, status_of,
+    write_fault,
 };
 pub use lf_task_run::{NoProgress, Progress, TimedProgress};
 pub use lf_task_serve::{

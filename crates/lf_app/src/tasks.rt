@@ -252,7 +252,14 @@ fn outcome_within<'a, D: Devices>(
         ),
         Task::Replay { journal, lines, .. } => {
             let lines = LineSource::Reader { max_lines: *lines };
-            serve_files(alloc, environment, inputs, *journal, lines, outputs_of(task))
+            serve_files(
+                alloc,
+                environment,
+                inputs,
+                *journal,
+                lines,
+                outputs_of(task),
+            )
         }
         Task::Serve {
             port,

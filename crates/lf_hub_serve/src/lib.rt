@@ -47,6 +47,6 @@ mod saving;
 mod server;
 mod serving;
 
-pub use server::{Ending, Failure, Server};
 pub use saving::{time_of, write_records};
+pub use server::{Ending, Failure, Server};
 pub use serving::serve_hub;

@@ -33,8 +33,8 @@ mod read_failure;
 mod text_refusal;
 
 pub use faults::{
-    BindFailure, Fault, HubFailure, OutputKind, TaskExit, TeamRefusal, TextFile, TextKind, exit_with,
-    report_fault, status_of, unread_fault, write_fault,
+    BindFailure, Fault, HubFailure, OutputKind, TaskExit, TeamRefusal, TextFile, TextKind,
+    exit_with, report_fault, status_of, unread_fault, write_fault,
 };
 pub use hints::{Compression, Hint, Remark};
 pub use read_failure::{ReadFailure, ReadFailureKind};

@@ -151,8 +151,14 @@ pub fn serve_hub_files<'a, T: InputFiles, H: HubHost>(
         (path_of input.entry.design.state) fault × IsOfHub fault) }
 {
     let design = input.design;
-    let OpenedDesign { loaded, .. } =
-        open_design(alloc, design.limits, texts, design.def, design.lefs, false)?;
+    let OpenedDesign { loaded, .. } = open_design(
+        alloc,
+        design.limits,
+        texts,
+        design.def,
+        design.lefs,
+        false,
+    )?;
     let floor = open_floor(alloc, texts, loaded, design.state)?;
     all_known(&floor, input.teams)?;
     let sockets = sockets_of(alloc, &floor, input.teams)?;

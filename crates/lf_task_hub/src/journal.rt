@@ -115,7 +115,13 @@ pub(crate) fn due_beginning<'a, T: InputFiles>(
     ensures err { IfErr result IsOfHub }
 {
     let design = input.design;
-    let line = line_of_files(alloc, texts, design.def, design.lefs, design.limits.sessions)?;
+    let line = line_of_files(
+        alloc,
+        texts,
+        design.def,
+        design.lefs,
+        design.limits.sessions,
+    )?;
     let name = name_of_state(alloc, texts, design.state)?;
     Ok(DueBeginning { line, name })
 }

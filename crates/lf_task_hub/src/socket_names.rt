@@ -70,10 +70,7 @@ pub(crate) fn sockets_of(
 }
 
 /// Returns the doors of these sockets.
-pub(crate) fn doors_of(
-    alloc: Global,
-    sockets: &[TeamSocket],
-) -> Result<Vec<Door<'_>>, AllocError> {
+pub(crate) fn doors_of(alloc: Global, sockets: &[TeamSocket]) -> Result<Vec<Door<'_>>, AllocError> {
     let mut doors = Vec::new(alloc);
     for socket in sockets {
         doors.push(Door {

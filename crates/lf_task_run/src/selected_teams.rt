@@ -35,10 +35,7 @@ fn is_known(floor: &Floor<IndexSeeker>, name: &[u8]) -> bool
 }
 
 /// Checks that every name is a team's. `Err(NoTeam)` with the first one that is not.
-pub fn all_known<'a>(
-    floor: &Floor<IndexSeeker>,
-    teams: &'a [&'a str],
-) -> Result<(), Fault<'a>>
+pub fn all_known<'a>(floor: &Floor<IndexSeeker>, teams: &'a [&'a str]) -> Result<(), Fault<'a>>
     ensures ok { OnOk result (AreKnown floor.now.frame (map (λ team. team.now) teams.now)) }
     ensures err { IfErr result (IsUnknown floor.now.frame (map (λ team. team.now) teams.now)) }
 {

@@ -7,8 +7,8 @@ ghost use Rattle.lf_server.specs.Devices.{writer};
 use crate::shelf::Shelf;
 use lf_app::{
     Acceptor, BindFailure, ClientReader, ClientWriter, Connection, Environment, FsInputFiles,
-    ImproveOptions, NetListener, NoHub, NoProgress, PortListener, RepairFiles, ServiceConfig, Slots, Task,
-    TaskExit, perform, perform_over,
+    ImproveOptions, NetListener, NoHub, NoProgress, PortListener, RepairFiles, ServiceConfig,
+    Slots, Task, TaskExit, perform, perform_over,
 };
 use lf_def::DEMO_DEF;
 use lf_io::{
