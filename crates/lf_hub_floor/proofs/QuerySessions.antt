@@ -76,53 +76,39 @@ module _ (old : FloorState) (team : List ℕ) (reply : Reply) (mid : FloorState)
   by_slot : (number : ℕ) (s : TeamState) → team_number old.frame team ≡ Some number → slice_get old.teams number ≡ Some s
       → (slot : Option ℕ) → position is_none s.slots ≡ slot → reply ≡ (opened_at slot s).reply → mid ≡ with_team number (opened_at slot s).team old
       → IsOpenedOrFull old team reply mid
-  by_slot number s named there None free reply_is floor_is = inr (
-    refused_not_opened reply (ap is_ok reply_is),
-    record {
-      kept = floor_is ∙ same_team old number s there;
-      full = λ other state named' there'.
-          let number_is : number ≡ other = same_Some number other (sym named ∙ named') in
-          let state_is : s ≡ state = same_Some s state (sym there ∙ (ap (slice_get old.teams) number_is ∙ there')) in
-          subst (λ (t : TeamState). position is_none t.slots ≡ None) state_is free;
-    },
-  )
-  by_slot number s named there (Some session) free reply_is floor_is = inl (
-    session,
-    s.revision,
-    reply_is,
-    record {
-      number = number;
-      state = s;
-      named = named;
-      there = there;
-      free = free;
-      is = floor_is;
-    },
-  )
+  by_slot number s named there None free reply_is floor_is = inr (refused_not_opened reply (ap is_ok reply_is), record {
+    kept = floor_is ∙ same_team old number s there;
+    full = λ other state named' there'.
+        let number_is : number ≡ other = same_Some number other (sym named ∙ named') in
+        let state_is : s ≡ state = same_Some s state (sym there ∙ (ap (slice_get old.teams) number_is ∙ there')) in
+        subst (λ (t : TeamState). position is_none t.slots ≡ None) state_is free;
+  })
+  by_slot number s named there (Some session) free reply_is floor_is = inl (session, s.revision, reply_is, record {
+    number = number;
+    state = s;
+    named = named;
+    there = there;
+    free = free;
+    is = floor_is;
+  })
 
   by_state : (l : Legalizer) (number : ℕ) → team_number old.frame team ≡ Some number → (o : Option TeamState) → slice_get old.teams number ≡ o
       → reply ≡ (answer_by o l old number Open).reply → mid ≡ (answer_by o l old number Open).floor → IsOpenedOrFull old team reply mid
   unfolding opened
-  by_state l number named None none reply_is floor_is = inr (
-    refused_not_opened reply (ap is_ok reply_is),
-    record {
-      kept = floor_is;
-      full = λ other state named' there'.
-          let number_is : number ≡ other = same_Some number other (sym named ∙ named') in
-          absurd (none-some state (sym none ∙ (ap (slice_get old.teams) number_is ∙ there')));
-    },
-  )
+  by_state l number named None none reply_is floor_is = inr (refused_not_opened reply (ap is_ok reply_is), record {
+    kept = floor_is;
+    full = λ other state named' there'.
+        let number_is : number ≡ other = same_Some number other (sym named ∙ named') in
+        absurd (none-some state (sym none ∙ (ap (slice_get old.teams) number_is ∙ there')));
+  })
   by_state l number named (Some s) there reply_is floor_is = by_slot number s named there (position is_none s.slots) refl reply_is floor_is
 
   by_number : (l : Legalizer) (o : Option ℕ) → team_number old.frame team ≡ o → reply ≡ (answer_at o l old Open).reply
       → mid ≡ (answer_at o l old Open).floor → IsOpenedOrFull old team reply mid
-  by_number l None none reply_is floor_is = inr (
-    refused_not_opened reply (ap is_ok reply_is),
-    record {
-      kept = floor_is;
-      full = λ other state named' there'. absurd (none-some other (sym none ∙ named'));
-    },
-  )
+  by_number l None none reply_is floor_is = inr (refused_not_opened reply (ap is_ok reply_is), record {
+    kept = floor_is;
+    full = λ other state named' there'. absurd (none-some other (sym none ∙ named'));
+  })
   by_number l (Some number) named reply_is floor_is = by_state l number named (slice_get old.teams number) refl reply_is floor_is
 
   by_answer : (l : Legalizer) → IsAnswerOf l old (To team Open) reply mid → IsOpenedOrFull old team reply mid

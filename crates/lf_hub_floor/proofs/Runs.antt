@@ -114,10 +114,10 @@ pub changes_are_lines : ChangesCanBeRecorded
 changes_are_lines l team line text outcome old new answers changes = elim (line_cases l team line old text outcome new answers) [
   | inl out ↦ absurd (false≢true (sym out.unchanged ∙ changes))
   | inr own ↦
-      let reply = own.answers.reply in
-      let lasts : is_lasting own.command reply ≡ true =
-      sym (change_is_lasting own.command reply) ∙ (sym (ap is_change own.answers.outcome_is) ∙ changes) in
-      can_be_recorded line text reply _ _ (request_line line own.command own.requested) (lasting_is_ok own.command reply lasts)
-      (others_are_short l old new own.command reply own.answers.steps.step (lasting_is_no_query own.command reply lasts))
-      own.answers.steps.text_is
+    let reply = own.answers.reply in
+    let lasts : is_lasting own.command reply ≡ true =
+    sym (change_is_lasting own.command reply) ∙ (sym (ap is_change own.answers.outcome_is) ∙ changes) in
+    can_be_recorded line text reply _ _ (request_line line own.command own.requested) (lasting_is_ok own.command reply lasts)
+    (others_are_short l old new own.command reply own.answers.steps.step (lasting_is_no_query own.command reply lasts))
+    own.answers.steps.text_is
 ]
