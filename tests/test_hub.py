@@ -123,13 +123,13 @@ class Serving(Hubs):
         peers = [self.peer("A.sock") for _ in range(8)]
         for number, peer in enumerate(peers):
             self.assertEqual(peer.ask("open A"), f"ok {number} 0")
-        self.assertEqual(self.peer("A.sock").ask("open A"), "no 3 SessionsFull")
+        self.assertEqual(self.peer("A.sock").ask("open A"), "no 10 SessionsFull")
         self.assertEqual(peers[0].ask("place A 0 a1 0 0 N"), "ok 1")
-        self.assertEqual(peers[1].ask("place A 1 a1 400 0 N"), "no 4 StaleRevision 1")
+        self.assertEqual(peers[1].ask("place A 1 a1 400 0 N"), "no 4 Stale 1")
         peers[0].close()
         # The session of a client that is gone is closed.
         late = self.peer("A.sock")
-        while (reply := late.ask("open A")) == "no 3 SessionsFull":
+        while (reply := late.ask("open A")) == "no 10 SessionsFull":
             pass
         self.assertEqual(reply, "ok 0 1")
 
@@ -194,15 +194,14 @@ class Restarting(Hubs):
         peer = self.peer("A.sock")
         self.assertEqual(peer.ask("open A"), "ok 0 0")
         self.assertEqual(peer.ask("place A 0 a1 0 0 N"), "ok 1")
-        self.assertEqual(peer.ask("commit A 0"), "ok 2")
-        self.assertEqual(peer.ask("place A 0 a1 400 0 N"), "ok 3")
+        self.assertEqual(peer.ask("place A 0 a1 400 0 N"), "ok 2")
         self.kill(hub)
         self.start()
         again = self.peer("A.sock")
         # The session of the client before is closed, and its slot is free.
-        self.assertEqual(again.ask("open A"), "ok 0 3")
+        self.assertEqual(again.ask("open A"), "ok 0 2")
         self.assertEqual(again.ask("where A 0 a1"), "ok 400 0 N")
-        self.assertEqual(again.ask("undo A 0"), "ok 4")
+        self.assertEqual(again.ask("undo A 0"), "ok 3")
         self.assertEqual(again.ask("where A 0 a1"), "ok 0 0 N")
 
     def test_kills_at_random_moments_lose_nothing_that_was_told(self) -> None:
@@ -225,13 +224,18 @@ class Restarting(Hubs):
     def test_the_journal_is_one_that_replay_runs(self) -> None:
         hub = self.start()
         peer = self.peer("A.sock")
-        for line in ("open A", "place A 0 a1 0 0 N", "commit A 0"):
-            self.assertTrue(peer.ask(line).startswith("ok"))
+        lines = ["open A", "tidy A 0", "commit A 0"]
+        for line in lines:
+            self.assertTrue(peer.ask(line).startswith("ok"), line)
         self.stop(hub)
-        exported = self.folder / "new.def"
-        words = ["replay", *DESIGN, "--journal", str(self.segment()), "--export", str(exported)]
-        self.assertEqual(run(words, ""), (0, "", ""))
-        self.assertIn("- a1 INV + PLACED ( 0 0 ) N ;", exported.read_text())
+        texts = []
+        for words, given in ((["--journal", str(self.segment())], ""), ([], "".join(f"{line}\n" for line in lines))):
+            exported = self.folder / "new.def"
+            status, _, said = run(["replay", *DESIGN, *words, "--export", str(exported)], given)
+            self.assertEqual((status, said), (0, ""))
+            texts.append(exported.read_bytes())
+        self.assertEqual(*texts)
+        self.assertNotEqual(texts[0], DEF.read_bytes())
 
     def test_a_state_with_which_the_journal_begins(self) -> None:
         state = self.folder / "begin.state"
@@ -308,8 +312,8 @@ class Refusals(Hubs):
     def test_a_damaged_journal_is_left_alone(self) -> None:
         hub = self.start()
         peer = self.peer("A.sock")
-        for line in ("open A", "place A 0 a1 0 0 N", "commit A 0"):
-            self.assertTrue(peer.ask(line).startswith("ok"))
+        for line in ("open A", "place A 0 a1 0 0 N", "place A 0 a2 400 0 N"):
+            self.assertTrue(peer.ask(line).startswith("ok"), line)
         self.stop(hub)
         text = bytearray(self.segment().read_bytes())
         at = text.index(b"place A")

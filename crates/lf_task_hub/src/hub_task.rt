@@ -129,6 +129,7 @@ fn serve_restored<'a, H: HubHost, T: InputFiles>(
     };
     let time = time_of(host.clock());
     let mut journal = open_journal(alloc, time, segment, &mut floor, &due, input.journal)?;
+    host.tell("the journal is restored");
     serve_floor(alloc, host, floor, &mut journal, sockets, input)
 }
 
