@@ -23,7 +23,7 @@ use Rattle.lf_floor_model.specs.VerbLaws.{is_ok}
 use Rattle.lf_hub_clients.specs.declared.floor.Outcome.{Outcome}
 use Rattle.lf_hub_clients.specs.declared.floor.Outcome.TheVariants.{Unchanged, Named}
 use Rattle.lf_hub_clients.specs.Turns.{is_change}
-use Rattle.lf_hub_floor.specs.Answers.{AnswersLine, AnswersNoRequest, AnswersOwn, AnswersRequest, StaysOut, change_made, gives_label, is_own, name_of_team, outcome_of, outcome_to, request_on}
+use Rattle.lf_hub_floor.specs.Answers.{AnswersLine, AnswersNoRequest, AnswersOwn, AnswersRequest, StaysOut, change_made, gives_label, is_own, name_of_team, outcome_of, request_on}
 
 -- ---- outcomes
 

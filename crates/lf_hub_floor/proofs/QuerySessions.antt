@@ -1,9 +1,10 @@
 -- A session is opened for a query, and closed after it: the floor is as it was, and the reply is that of
 -- any session.
-use Rattle.std.proofs.Common.{◌≡◌, ◌≢◌, ◌⊎◌, inl, inr, ℕ, ◌<◌, ◌≤◌, zero, suc, List, [], ◌∷◌, length, set, get_or, Bool, true, false, not, ◌&&◌, Option, Some, None, refl, ap, sym, ◌∙◌, subst, arith}
-use Rattle.std.specs.Prelude.{All, MatchBool, MatchOption, option_and_then, position, is_none, slice_get, slice_set, unwrap_or}
+use Rattle.std.proofs.Common.{◌≡◌, ◌≢◌, ◌⊎◌, inl, inr, ℕ, ◌<◌, ◌≤◌, zero, suc, List, [], ◌∷◌, length, set, get_or, Bool, true, false, not, ◌&&◌, cond, Option, Some, None, refl, ap, sym, ◌∙◌, subst, arith}
+use Rattle.std.specs.Prelude.{All, MatchBool, MatchOption, option_and_then, position, is_none, nat_lt, slice_get, slice_set, unwrap_or}
 use Rattle.std.specs.Option.{option_map_or}
 use Rattle.std.proofs.lemmas.Bool.{false≢true}
+use Rattle.std.proofs.lemmas.Bool.Decides.{nat_tests}
 use Rattle.std.proofs.lemmas.List.{set-get_or, set-set, get_or-set_same}
 use Rattle.std.proofs.lemmas.List.Quantifiers.{position-Some}
 use Rattle.std.proofs.lemmas.Option.{get_or_from_slice_get, none-some, same_Some, slice_get_within}
@@ -337,9 +338,13 @@ some_seen : (o : Option ℕ) → is_none o ≡ false → (n : ℕ) × (o ≡ Som
 some_seen None e = absurd (false≢true (sym e))
 some_seen (Some n) e = (n, refl)
 
+zero_within : (n : ℕ) → 0 < n → nat_lt 0 n ≡ true
+zero_within n within = grind (arith, nat_tests)
+
 none_is : (slots : List (Option ℕ)) → position is_none slots ≡ None → 0 < length slots → is_none (get_or slots 0 None) ≡ false
 none_is [] none some = absurd (omega arith)
-none_is (None ∷ slots) none some = absurd (none-some 0 (sym none))
+none_is (None ∷ slots) none some = 
+    absurd (none-some 0 (sym none ∙ ap (λ (b : Bool). cond b (Some 0) None) (zero_within (suc (length slots)) some)))
 none_is (Some n ∷ slots) none some = refl
 
 sessions_there : (old : FloorState) (number : ℕ) (s : TeamState) → All (λ s. IsTeamOf old.frame s) old.teams → slice_get old.teams number ≡ Some s

@@ -81,13 +81,10 @@ change_made Open (OpenedReply session revision) = Opened session
 change_made (Within session Close) reply = Closed session
 change_made order reply = Changed
 
-abbrev pub outcome_to : List ℕ → TeamCommand (List ℕ) Place → Reply → Outcome
-outcome_to team order reply = cond (is_lasting (To team order) reply) (change_made order reply) Unchanged
-
 -- The outcome of a command with this reply: what lasts is a change.
 abbrev pub outcome_of : Command (List ℕ) Place → Reply → Outcome
 outcome_of Bye reply = Ended
-outcome_of (To team order) reply = outcome_to team order reply
+outcome_of (To team order) reply = cond (is_lasting (To team order) reply) (change_made order reply) Unchanged
 
 -- ---- answers
 

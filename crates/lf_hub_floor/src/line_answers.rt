@@ -65,8 +65,7 @@ pub(crate) fn can_change(line: &[u8]) -> bool
 {
     match request_of_line(ended_line(line)) {
         None => false,
-        Some(Command::Bye) => false,
-        Some(Command::To { order, .. }) => !is_query(&order),
+        Some(request) => !is_query(&request),
     }
 }
 

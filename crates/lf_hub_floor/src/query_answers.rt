@@ -86,7 +86,7 @@ fn look_query<K: Seeker + Drop>(
     query: Action<&[u8]>,
     text: &mut Vec<u8>,
 )
-    requires query { is_query_action (action_of query.entry) ≡ true }
+    requires query { is_query_action (action_of query) ≡ true }
     requires empty { text.old.items ≡ [] }
     requires room { 4096 ≤ vec_capacity text.old }
     ensures shows { (l : Legalizer) (session : ℕ)
