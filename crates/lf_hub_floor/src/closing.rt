@@ -85,7 +85,7 @@ fn write_close<K: Seeker + Drop>(
 }
 
 /// Closes a session of the team of this number: writes the line that does so, and answers it.
-#[tactic(auto, using(crate::proofs::ClosingLines::closes_outcome, crate::proofs::ClosingLines::closes_no_query))]
+#[tactic(auto, using(crate::proofs::ClosingLines::closes_no_query))]
 pub(crate) fn close_session<K: Seeker + Drop>(
     floor: &mut Floor<K>,
     team: u32,

@@ -1,14 +1,10 @@
-use Rattle.std.proofs.Common.{rules, ◌≡◌, ◌≤◌, ◌+◌, ◌++◌, ◌∷◌, ◌⊎◌, [], codes, decimal, false, length, true, vec_capacity, vec_len, ℕ, ◌-◌, ◌*◌, ◌<◌, ◌/◌, ◌%◌, Bool, nat_eq, nat_lt, List, slice_index_or, slice_set, bit_and, bit_or, Fits, w8, w32, w64, Bor, MutBor}
-use Rattle.lf_rules.specs.Legalizer.{Legalizer}
-use Rattle.lf_proto.specs.Printed.{printed}
-use Rattle.lf_proto.specs.declared.request.Command.TheVariants.{To}
-use Rattle.lf_proto.specs.declared.request.TeamCommand.TheVariants.{Within}
-use Rattle.lf_proto.specs.declared.verb.Action.TheVariants.{Close}
-use Rattle.lf_hub_clients.specs.Turns.{is_change}
-use Rattle.lf_server.specs.Connections.{KeepsDesign}
-use Rattle.lf_hub_floor.specs.Answers.{AnswersLine, closes_session, request_on}
+use Rattle.std.proofs.Common.{ℕ, List, sym, subst}
+use Rattle.lf_hub_floor.proofs.ClosingLines.{ClosesOrEmpty, closes_outcome}
 use Rattle.lf_hub_floor.proofs.closing.close_session.Goals as goal
 
--- src/closing.rt:88:1
 pub returns-clause-closes : goal.returns-clause-closes
-returns-clause-closes g c = ?
+returns-clause-closes g c =
+    let l = c.legalizer_exists.ensures in
+    closes_outcome l c.args.team c.as_slice.result.now c.args.session c.args.floor.now c.answer_line.new.text.items c.answer_line.result
+    c.answer_line.new.floor (c.answer_line.ensures.answers l)
+    (subst (λ (line : List ℕ). ClosesOrEmpty c.args.session line) (sym c.as_slice.ensures.value) c.write_close.ensures.closes)

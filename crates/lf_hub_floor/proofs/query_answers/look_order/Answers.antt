@@ -1,17 +1,14 @@
-use Rattle.std.proofs.Common.{rules, ◌≡◌, ◌≤◌, [], ℕ, MatchOption, Some, slice_get, true, vec_capacity, ◌+◌, ◌-◌, ◌*◌, ◌<◌, length, ◌/◌, ◌%◌, Bool, false, nat_eq, nat_lt, List, ◌∷◌, ◌++◌, slice_index_or, slice_set, bit_and, bit_or, Fits, w8, w32, w64, Bor, MutBor}
-use Rattle.lf_rules.specs.Legalizer.{Legalizer}
+use Rattle.std.proofs.Common.{ap, sym, subst, List, ℕ}
+use Rattle.lf_floorplan.specs.declared.place.Place.{Place}
 use Rattle.lf_proto.specs.Commands.{order_of}
-use Rattle.lf_proto.specs.Verbs.{action_of}
-use Rattle.lf_proto.specs.declared.request.Command.TheVariants.{To}
-use Rattle.lf_proto.specs.declared.request.TeamCommand.TheVariants.{Within}
-use Rattle.lf_floor_model.specs.States.{FloorState, TeamState}
-use Rattle.lf_floor_model.specs.Teams.{team_number}
-use Rattle.lf_server.specs.Exchanges.{StepsOn}
-use Rattle.lf_hub_floor.specs.Answers.{is_query_action}
-use Rattle.lf_hub_floor.specs.QueryAnswers.{ShowsLine, ShowsOrder}
-use Rattle.lf_hub_floor.specs.QuerySessions.{HasNoFreeSlot, OpensSession, session_opened}
+use Rattle.lf_proto.specs.declared.request.TeamCommand.{TeamCommand}
+use Rattle.lf_hub_floor.specs.QueryAnswers.{ShowsOrder}
+use Rattle.lf_hub_floor.proofs.QuerySessions.{open_shows}
 use Rattle.lf_hub_floor.proofs.query_answers.look_order.Goals as goal
 
--- src/query_answers.rt:157:1
 pub returns-in-Open-clause-shows : goal.returns-in-Open-clause-shows
-returns-in-Open-clause-shows g c = ?
+returns-in-Open-clause-shows g c = λ l.
+    subst (λ (order : TeamCommand (List ℕ) Place). ShowsOrder l c.args.floor.now c.args.team.now order c.write_short_reply.new.text.items)
+    (sym (ap order_of c.in-Open.is))
+    (open_shows l c.args.floor.now c.args.team.now c.revision_of-revision.result c.write_short_reply.new.text.items c.revision_of-revision.ensures
+    c.write_short_reply.ensures.text)

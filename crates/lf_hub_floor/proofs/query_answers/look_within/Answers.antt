@@ -1,37 +1,38 @@
-use Rattle.std.proofs.Common.{rules, ◌≡◌, ◌≤◌, [], ℕ, MatchOption, Some, slice_get, true, vec_capacity, ◌+◌, ◌-◌, ◌*◌, ◌<◌, length, ◌/◌, ◌%◌, Bool, false, nat_eq, nat_lt, List, ◌∷◌, ◌++◌, slice_index_or, slice_set, bit_and, bit_or, Fits, w8, w32, w64, Bor, MutBor}
-use Rattle.lf_rules.specs.Legalizer.{Legalizer}
-use Rattle.lf_proto.specs.Commands.{order_of}
+use Rattle.std.proofs.Common.{◌++◌, ◌∙◌, ap, ℕ, List}
+use Rattle.std.specs.Prelude.{codes}
 use Rattle.lf_proto.specs.Verbs.{action_of}
-use Rattle.lf_proto.specs.declared.request.Command.TheVariants.{To}
-use Rattle.lf_proto.specs.declared.request.TeamCommand.TheVariants.{Within}
-use Rattle.lf_floor_model.specs.States.{FloorState, TeamState}
-use Rattle.lf_floor_model.specs.Teams.{team_number}
-use Rattle.lf_server.specs.Exchanges.{StepsOn}
-use Rattle.lf_hub_floor.specs.Answers.{is_query_action}
-use Rattle.lf_hub_floor.specs.QueryAnswers.{ShowsLine, ShowsOrder}
-use Rattle.lf_hub_floor.specs.QuerySessions.{HasNoFreeSlot, OpensSession, session_opened}
+use Rattle.lf_proto.specs.declared.verb.Action.TheVariants.{Close, Sync, Check, Def, Where, Find}
+use Rattle.lf_hub_floor.proofs.QuerySessions.{close_shows, revision_shows, shows_same}
 use Rattle.lf_hub_floor.proofs.query_answers.look_within.Goals as goal
 
--- src/query_answers.rt:127:1
 pub returns-in-Close-clause-shows : goal.returns-in-Close-clause-shows
-returns-in-Close-clause-shows g c = ?
+returns-in-Close-clause-shows g c = λ l session.
+    shows_same l c.args.floor.now c.args.team.now session (action_of c.args.action) Close c.put.new.out.items (ap action_of c.in-Close.is)
+    (close_shows l c.args.floor.now c.args.team.now session c.put.new.out.items
+    (c.put.ensures.items ∙ ap (λ (text : List ℕ). text ++ codes "ok\n") c.requires.empty))
 
--- src/query_answers.rt:127:1
 pub returns-in-Sync-clause-shows : goal.returns-in-Sync-clause-shows
-returns-in-Sync-clause-shows g c = ?
+returns-in-Sync-clause-shows g c = λ l session.
+    shows_same l c.args.floor.now c.args.team.now session (action_of c.args.action) Sync c.write_short_reply.new.text.items (ap action_of c.in-Sync.is)
+    (revision_shows l c.args.floor.now c.args.team.now session c.revision_of-revision.result c.write_short_reply.new.text.items c.revision_of-revision.ensures
+    c.write_short_reply.ensures.text)
 
--- src/query_answers.rt:127:1
 pub returns-in-Check-clause-shows : goal.returns-in-Check-clause-shows
-returns-in-Check-clause-shows g c = ?
+returns-in-Check-clause-shows g c = λ l session.
+    shows_same l c.args.floor.now c.args.team.now session (action_of c.args.action) (action_of (Check)) c.look_query.new.text.items (ap action_of c.in-Check.is)
+    (c.look_query.ensures.shows l session)
 
--- src/query_answers.rt:127:1
 pub returns-in-Def-clause-shows : goal.returns-in-Def-clause-shows
-returns-in-Def-clause-shows g c = ?
+returns-in-Def-clause-shows g c = λ l session.
+    shows_same l c.args.floor.now c.args.team.now session (action_of c.args.action) (action_of (Def)) c.look_query-in-Def.new.text.items (ap action_of c.in-Def.is)
+    (c.look_query-in-Def.ensures.shows l session)
 
--- src/query_answers.rt:127:1
 pub returns-in-Where-clause-shows : goal.returns-in-Where-clause-shows
-returns-in-Where-clause-shows g c = ?
+returns-in-Where-clause-shows g c = λ l session.
+    shows_same l c.args.floor.now c.args.team.now session (action_of c.args.action) (action_of (Where c.in-Where.cell)) c.look_query-in-Where.new.text.items (ap action_of c.in-Where.is)
+    (c.look_query-in-Where.ensures.shows l session)
 
--- src/query_answers.rt:127:1
 pub returns-in-Find-clause-shows : goal.returns-in-Find-clause-shows
-returns-in-Find-clause-shows g c = ?
+returns-in-Find-clause-shows g c = λ l session.
+    shows_same l c.args.floor.now c.args.team.now session (action_of c.args.action) (action_of (Find c.in-Find.cell c.in-Find.target)) c.look_query-in-Find.new.text.items (ap action_of c.in-Find.is)
+    (c.look_query-in-Find.ensures.shows l session)

@@ -1,17 +1,12 @@
-use Rattle.std.proofs.Common.{rules, ◌≡◌, ◌≤◌, [], ℕ, MatchOption, Some, slice_get, true, vec_capacity, ◌+◌, ◌-◌, ◌*◌, ◌<◌, length, ◌/◌, ◌%◌, Bool, false, nat_eq, nat_lt, List, ◌∷◌, ◌++◌, slice_index_or, slice_set, bit_and, bit_or, Fits, w8, w32, w64, Bor, MutBor}
-use Rattle.lf_rules.specs.Legalizer.{Legalizer}
-use Rattle.lf_proto.specs.Commands.{order_of}
-use Rattle.lf_proto.specs.Verbs.{action_of}
-use Rattle.lf_proto.specs.declared.request.Command.TheVariants.{To}
-use Rattle.lf_proto.specs.declared.request.TeamCommand.TheVariants.{Within}
-use Rattle.lf_floor_model.specs.States.{FloorState, TeamState}
-use Rattle.lf_floor_model.specs.Teams.{team_number}
-use Rattle.lf_server.specs.Exchanges.{StepsOn}
-use Rattle.lf_hub_floor.specs.Answers.{is_query_action}
-use Rattle.lf_hub_floor.specs.QueryAnswers.{ShowsLine, ShowsOrder}
-use Rattle.lf_hub_floor.specs.QuerySessions.{HasNoFreeSlot, OpensSession, session_opened}
+use Rattle.std.proofs.Common.{ℕ, Option, sym, subst}
+use Rattle.std.specs.Prelude.{MatchOption}
+use Rattle.lf_hub_floor.specs.QuerySessions.{HasNoFreeSlot, OpensSession}
+use Rattle.lf_hub_floor.proofs.QuerySessions.{opens_session}
 use Rattle.lf_hub_floor.proofs.query_answers.open_session.Goals as goal
 
--- src/query_answers.rt:37:1
 pub returns : goal.returns
-returns g c = ?
+returns g c =
+    let l = c.legalizer_exists.ensures in
+    subst (λ (o : Option ℕ). MatchOption o (HasNoFreeSlot c.args.floor.now c.args.team.now c.step-reply.new.self)
+    (λ session. OpensSession c.args.floor.now c.args.team.now session c.step-reply.new.self)) (sym c.session_opened.ensures)
+    (opens_session c.args.floor.now c.args.team.now c.step-reply.result c.step-reply.new.self l (c.step-reply.ensures.step l))
