@@ -1,6 +1,6 @@
 -- A session is opened for a query, and closed after it: the floor is as it was, and the reply is that of
 -- any session.
-use Rattle.std.proofs.Common.{◌≡◌, ◌≢◌, ◌⊎◌, inl, inr, ℕ, ◌<◌, ◌≤◌, zero, suc, List, [], ◌∷◌, length, set, get_or, Bool, true, false, not, ◌&&◌, cond, Option, Some, None, refl, ap, sym, ◌∙◌, subst, arith}
+use Rattle.std.proofs.Common.{◌≡◌, ◌⊎◌, inl, inr, ℕ, ◌<◌, zero, suc, List, [], ◌∷◌, length, set, get_or, Bool, true, false, not, ◌&&◌, cond, Option, Some, None, refl, ap, sym, ◌∙◌, subst, arith}
 use Rattle.std.specs.Prelude.{All, MatchBool, MatchOption, option_and_then, position, is_none, nat_lt, slice_get, slice_set, unwrap_or}
 use Rattle.std.specs.Option.{option_map_or}
 use Rattle.std.proofs.lemmas.Bool.{false≢true}
@@ -25,19 +25,19 @@ use Rattle.lf_cells.specs.declared.cell.Cell.{Cell}
 use Rattle.lf_cells.specs.Cells.{cell_named, working_at}
 use Rattle.lf_floor_model.specs.States.{TeamState, FloorState}
 use Rattle.lf_floor_model.specs.Teams.{IsTeamOf, TeamRules, state_of, team_number, team_rules}
-use Rattle.lf_floor_model.specs.Outcomes.{Outcome, is_short, may_be_short, name_at}
+use Rattle.lf_floor_model.specs.Outcomes.{is_short, may_be_short, name_at}
 use Rattle.lf_floor_model.specs.Sessions.{closed, opened, opened_at, seen_at, synced}
 use Rattle.lf_floor_model.specs.Queries.{best_at, checked, found, located, written}
 use Rattle.lf_floor_model.specs.Verbs.{outcome_by_slot, outcome_within}
 use Rattle.lf_floor_model.specs.VerbLaws.{is_ok}
 use Rattle.lf_floor_model.specs.Journals.{is_query}
-use Rattle.lf_floor_model.specs.Steps.{Answer, AllocatesNothing, IsAnswerOf, IsGivenAnswer, MayRunOutOfMemory, Step, answer_at, answer_of, answer_of_outcome, outcome_by_rules}
+use Rattle.lf_floor_model.specs.Steps.{Answer, AllocatesNothing, IsAnswerOf, MayRunOutOfMemory, Step, answer_at, answer_of, answer_of_outcome, outcome_by_rules}
 use Rattle.lf_floor_model.proofs.Forms.{answer_by, found_at, found_own, located_at, located_own, state_at}
 use Rattle.lf_server.specs.Exchanges.{StepsOn, name_in, reply_cells, reply_text_of}
 use Rattle.lf_hub_floor.specs.Answers.{is_query_action}
 use Rattle.lf_hub_floor.specs.QuerySessions.{HasNoFreeSlot, OpensSession, session_opened, with_session, with_team}
 use Rattle.lf_hub_floor.specs.QueryAnswers.{ShowsOrder, ShowsReply, query_reply, queries_only}
-use Rattle.lf_hub_floor.proofs.LongReplies.{kept_unless_lasting, step_answers}
+use Rattle.lf_hub_floor.proofs.LongReplies.{kept_unless_lasting}
 
 -- ---- steps that allocate nothing
 
@@ -318,7 +318,7 @@ zero_within n within = grind (arith, nat_tests)
 
 none_is : (slots : List (Option ℕ)) → position is_none slots ≡ None → 0 < length slots → is_none (get_or slots 0 None) ≡ false
 none_is [] none some = absurd (omega arith)
-none_is (None ∷ slots) none some = 
+none_is (None ∷ slots) none some =
     absurd (none-some 0 (sym none ∙ ap (λ (b : Bool). cond b (Some 0) None) (zero_within (suc (length slots)) some)))
 none_is (Some n ∷ slots) none some = refl
 

@@ -72,7 +72,11 @@ pub(crate) fn can_change(line: &[u8]) -> bool
 /// Executes a command, and writes the text of the reply into an empty buffer. Returns the reply, which
 /// is `OutOfMemory` if its text has no memory.
 #[tactic(auto, using(crate::proofs::Executing::short_steps))]
-pub(crate) fn execute<K: Seeker + Drop>(floor: &mut Floor<K>, request: &Request, text: &mut Vec<u8>) -> Reply
+pub(crate) fn execute<K: Seeker + Drop>(
+    floor: &mut Floor<K>,
+    request: &Request,
+    text: &mut Vec<u8>,
+) -> Reply
     requires empty { text.old.items ≡ [] }
     requires room { 4096 ≤ vec_capacity text.old }
     ensures steps { (l : Legalizer)
