@@ -1,5 +1,5 @@
 -- The line that closes a session.
-use Rattle.std.proofs.Common.{◌≡◌, ◌⊎◌, inl, inr, ℕ, List, [], ◌∷◌, ◌++◌, Bool, true, false, cond, ◌==◌, Option, Some, None, refl, ap, sym, ◌∙◌, subst, append_assoc}
+use Rattle.std.proofs.Common.{◌≡◌, ◌⊎◌, inl, inr, ℕ, List, [], ◌∷◌, ◌++◌, Bool, true, false, cond, Option, Some, None, refl, ap, sym, ◌∙◌, append_assoc}
 use Rattle.std.specs.Prelude.{codes}
 use Rattle.std.specs.List.{join_with_byte}
 use Rattle.std.proofs.lemmas.Bool.{eqb-true, false≢true}
@@ -9,7 +9,6 @@ use Rattle.lf_rules.specs.Legalizer.{Legalizer}
 use Rattle.lf_proto.specs.declared.request.Command.{Command}
 use Rattle.lf_proto.specs.declared.request.Command.TheVariants.{Bye, To}
 use Rattle.lf_proto.specs.declared.request.TeamCommand.TheVariants.{Open, Within}
-use Rattle.lf_proto.specs.declared.verb.Action.{Action}
 use Rattle.lf_proto.specs.declared.verb.Action.TheVariants.{Close, Sync, Check, Def, Where, Find, Change as Changing}
 use Rattle.lf_proto.specs.declared.reply.Reply.{Reply}
 use Rattle.lf_floor_model.specs.States.{FloorState}
@@ -18,7 +17,7 @@ use Rattle.lf_hub_clients.specs.declared.floor.Outcome.{Outcome}
 use Rattle.lf_hub_clients.specs.declared.floor.Outcome.TheVariants.{Unchanged, Closed}
 use Rattle.lf_hub_clients.specs.Turns.{is_change}
 use Rattle.lf_hub_floor.specs.Answers.{AnswersLine, closes_by, closes_session, is_query_line, outcome_of, request_on}
-use Rattle.lf_hub_floor.proofs.LineCases.{IsOut, IsOwnLine, line_cases}
+use Rattle.lf_hub_floor.proofs.LineCases.{line_cases}
 
 -- The words of the line, one after the other.
 pub close_line : (team number a b c d e : List ℕ) → a ≡ [] → b ≡ a ++ codes "close " → c ≡ b ++ team → d ≡ c ++ codes " " → e ≡ d ++ number

@@ -1,5 +1,5 @@
 -- From a step of the floor to the answer of a line.
-use Rattle.std.proofs.Common.{◌≡◌, ℕ, List, [], Bool, true, false, Option, Some, None, refl, ap, sym, ◌∙◌, subst}
+use Rattle.std.proofs.Common.{◌≡◌, ℕ, List, [], true, false, refl, ap, sym, ◌∙◌}
 use Rattle.std.proofs.lemmas.Bool.{false≢true}
 use Rattle.lf_floorplan.specs.declared.place.Place.{Place}
 use Rattle.lf_rules.specs.Legalizer.{Legalizer}
@@ -8,10 +8,8 @@ use Rattle.lf_proto.specs.declared.reply.Reply.{Reply}
 use Rattle.lf_proto.specs.declared.reply.Reply.TheVariants.{Report, Def, Refused}
 use Rattle.lf_proto.specs.declared.reply.Refusal.TheVariants.{OutOfMemory}
 use Rattle.lf_proto.specs.ReplyText.{reply_text}
-use Rattle.lf_floor.specs.Responses.{team_addressed}
 use Rattle.lf_floor_model.specs.States.{FloorState}
 use Rattle.lf_floor_model.specs.Steps.{Step}
-use Rattle.lf_floor_model.specs.Journals.{is_lasting}
 use Rattle.lf_server.specs.Exchanges.{StepsOn, is_long, reply_text_of}
 use Rattle.lf_hub_clients.specs.declared.floor.Outcome.{Outcome}
 use Rattle.lf_hub_clients.specs.Turns.{is_change, refusal}

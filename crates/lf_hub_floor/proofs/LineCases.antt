@@ -1,8 +1,7 @@
 -- The cases of a line: it does not reach the floor, or it is one step of it.
-use Rattle.std.proofs.Common.{◌≡◌, ◌≢◌, ◌⊎◌, inl, inr, ℕ, List, [], ◌∷◌, Bool, true, false, cond, not, ◌&&◌, Option, Some, None, refl, ap, sym, ◌∙◌, subst}
-use Rattle.std.specs.Prelude.{MatchBool, MatchOption, bytes_eq}
+use Rattle.std.proofs.Common.{◌≡◌, ◌≢◌, ◌⊎◌, inl, inr, ℕ, List, Bool, true, false, cond, not, ◌&&◌, Option, Some, None, refl, ap, sym, ◌∙◌}
+use Rattle.std.specs.Prelude.{MatchBool, MatchOption}
 use Rattle.std.proofs.lemmas.Bool.{false≢true}
-use Rattle.std.proofs.lemmas.Option.{none-some}
 use Rattle.std.proofs.lemmas.Slice.Eq.{bytes_eq-Decides}
 use Rattle.lf_floorplan.specs.declared.place.Place.{Place}
 use Rattle.lf_rules.specs.Legalizer.{Legalizer}
@@ -23,7 +22,7 @@ use Rattle.lf_floor_model.specs.VerbLaws.{is_ok}
 use Rattle.lf_hub_clients.specs.declared.floor.Outcome.{Outcome}
 use Rattle.lf_hub_clients.specs.declared.floor.Outcome.TheVariants.{Unchanged, Named}
 use Rattle.lf_hub_clients.specs.Turns.{is_change}
-use Rattle.lf_hub_floor.specs.Answers.{AnswersLine, AnswersNoRequest, AnswersOwn, AnswersRequest, StaysOut, change_made, gives_label, is_own, name_of_team, outcome_of, outcome_to, request_on}
+use Rattle.lf_hub_floor.specs.Answers.{AnswersLine, AnswersNoRequest, AnswersOwn, AnswersRequest, StaysOut, change_made, gives_label, is_own, name_of_team, outcome_of, request_on}
 
 -- ---- outcomes
 

@@ -1,6 +1,6 @@
 -- What is known of a step: only a query has a report or a DEF text as its reply, and a command that
 -- does not last leaves the floor unchanged.
-use Rattle.std.proofs.Common.{◌≡◌, ◌⊎◌, inl, inr, ℕ, ◌+◌, List, [], ◌∷◌, Bool, true, false, Option, Some, None, refl, ap, sym, ◌∙◌, subst}
+use Rattle.std.proofs.Common.{◌≡◌, inl, inr, ℕ, ◌+◌, List, [], ◌∷◌, Bool, true, false, Option, Some, None, refl, ap, sym, ◌∙◌}
 use Rattle.std.specs.Prelude.{MatchBool, slice_get, slice_set}
 use Rattle.std.proofs.lemmas.Bool.{false≢true}
 use Rattle.std.proofs.lemmas.List.{set-get_or}
@@ -19,8 +19,8 @@ use Rattle.lf_floor_model.specs.States.{TeamState, FloorState}
 use Rattle.lf_floor_model.specs.Teams.{TeamRules, team_rules, team_number}
 use Rattle.lf_floor_model.specs.Outcomes.{Outcome, is_short, may_be_short}
 use Rattle.lf_floor_model.specs.Verbs.{outcome_of, takes_memory, is_tested}
-use Rattle.lf_floor_model.specs.VerbLaws.{is_change, is_ok, replied_revision}
-use Rattle.lf_floor_model.specs.Steps.{outcome_by_rules, answer_at, answer_of, AllocatesNothing, IsTested, IsAnswerOf, MayRunOutOfMemory, Step}
+use Rattle.lf_floor_model.specs.VerbLaws.{is_change, replied_revision}
+use Rattle.lf_floor_model.specs.Steps.{answer_at, answer_of, AllocatesNothing, IsTested, IsAnswerOf, MayRunOutOfMemory, Step}
 use Rattle.lf_floor_model.specs.Journals.{is_query, is_lasting}
 use Rattle.lf_floor_model.proofs.Cases.{Facts, has_text, order_facts}
 use Rattle.lf_floor_model.proofs.Forms.{answer_by}

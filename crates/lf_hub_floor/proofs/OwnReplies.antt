@@ -1,6 +1,6 @@
 -- The reply to a line depends on the team's own state and the frame alone.
-use Rattle.std.proofs.Common.{◌≡◌, ◌≢◌, ◌⊎◌, inl, inr, ℕ, List, [], ◌∷◌, Bool, true, false, cond, Option, Some, None, refl, ap, sym, ◌∙◌, subst}
-use Rattle.std.specs.Prelude.{MatchBool, MatchOption, bytes_eq, option_and_then, slice_get, unwrap_or}
+use Rattle.std.proofs.Common.{◌≡◌, ◌≢◌, ◌⊎◌, inl, inr, ℕ, List, [], Bool, true, false, Option, Some, None, refl, ap, sym, ◌∙◌, subst}
+use Rattle.std.specs.Prelude.{MatchBool, MatchOption, option_and_then, slice_get, unwrap_or}
 use Rattle.std.proofs.lemmas.Bool.{false≢true}
 use Rattle.std.proofs.lemmas.Option.{none-some, same_Some}
 use Rattle.std.proofs.lemmas.Slice.Eq.{bytes_eq-Decides}
@@ -18,7 +18,7 @@ use Rattle.lf_proto.specs.Stream.{ended_line}
 use Rattle.lf_floor_model.specs.States.{TeamState, FloorState}
 use Rattle.lf_floor_model.specs.Teams.{state_of, team_number, team_rules}
 use Rattle.lf_floor_model.specs.Outcomes.{is_short, may_be_short, name_at}
-use Rattle.lf_floor_model.specs.Steps.{Answer, answer_of, outcome_by_rules}
+use Rattle.lf_floor_model.specs.Steps.{outcome_by_rules}
 use Rattle.lf_floor_model.proofs.Answering.{bye_answers, own_answer}
 use Rattle.lf_floor_model.proofs.Isolation.{step_frame}
 use Rattle.lf_floor_model.proofs.Forms.{state_at}
@@ -26,8 +26,8 @@ use Rattle.lf_server.specs.Exchanges.{name_in, reply_cells, reply_text_of}
 use Rattle.lf_hub_clients.specs.declared.floor.Outcome.{Outcome}
 use Rattle.lf_hub_clients.specs.declared.floor.Outcome.TheVariants.{Unchanged, Named}
 use Rattle.lf_hub_clients.specs.Turns.{refusal}
-use Rattle.lf_hub_floor.specs.Answers.{AnswersLine, AnswersNoRequest, AnswersOwn, AnswersRequest, StaysOut, gives_label, is_own, name_of_team, outcome_of, request_on}
-use Rattle.lf_hub_floor.specs.QueryAnswers.{ShowsLine, ShowsOrder, ShowsOwn, ShowsReply, query_reply, queries_only}
+use Rattle.lf_hub_floor.specs.Answers.{AnswersNoRequest, AnswersOwn, AnswersRequest, StaysOut, gives_label, is_own, name_of_team, outcome_of, request_on}
+use Rattle.lf_hub_floor.specs.QueryAnswers.{ShowsOrder, ShowsOwn, ShowsReply, query_reply, queries_only}
 use Rattle.lf_hub_floor.specs.Laws.{AgreeOn, AreSameFor, QueriesAreOwn, RepliesAreOwn}
 use Rattle.lf_hub_floor.proofs.LongReplies.{step_answers}
 

@@ -1,9 +1,10 @@
 -- A session is opened for a query, and closed after it: the floor is as it was, and the reply is that of
 -- any session.
-use Rattle.std.proofs.Common.{◌≡◌, ◌≢◌, ◌⊎◌, inl, inr, ℕ, ◌<◌, ◌≤◌, zero, suc, List, [], ◌∷◌, length, set, get_or, Bool, true, false, not, ◌&&◌, Option, Some, None, refl, ap, sym, ◌∙◌, subst, arith}
-use Rattle.std.specs.Prelude.{All, MatchBool, MatchOption, option_and_then, position, is_none, slice_get, slice_set, unwrap_or}
+use Rattle.std.proofs.Common.{◌≡◌, ◌⊎◌, inl, inr, ℕ, ◌<◌, zero, suc, List, [], ◌∷◌, length, set, get_or, Bool, true, false, not, ◌&&◌, cond, Option, Some, None, refl, ap, sym, ◌∙◌, subst, arith}
+use Rattle.std.specs.Prelude.{All, MatchBool, MatchOption, option_and_then, position, is_none, nat_lt, slice_get, slice_set, unwrap_or}
 use Rattle.std.specs.Option.{option_map_or}
 use Rattle.std.proofs.lemmas.Bool.{false≢true}
+use Rattle.std.proofs.lemmas.Bool.Decides.{nat_tests}
 use Rattle.std.proofs.lemmas.List.{set-get_or, set-set, get_or-set_same}
 use Rattle.std.proofs.lemmas.List.Quantifiers.{position-Some}
 use Rattle.std.proofs.lemmas.Option.{get_or_from_slice_get, none-some, same_Some, slice_get_within}
@@ -17,26 +18,26 @@ use Rattle.lf_proto.specs.declared.request.TeamCommand.TheVariants.{Open, Within
 use Rattle.lf_proto.specs.declared.verb.Action.{Action}
 use Rattle.lf_proto.specs.declared.verb.Action.TheVariants.{Close, Sync, Check, Def, Where, Find, Change as Changing}
 use Rattle.lf_proto.specs.declared.reply.Reply.{Reply}
-use Rattle.lf_proto.specs.declared.reply.Reply.TheVariants.{Opened, Refused}
-use Rattle.lf_proto.specs.declared.reply.Refusal.TheVariants.{NoTeam, SessionsFull, OutOfMemory}
+use Rattle.lf_proto.specs.declared.reply.Reply.TheVariants.{Done, Opened, Revision, Refused}
+use Rattle.lf_proto.specs.declared.reply.Refusal.TheVariants.{OutOfMemory}
 use Rattle.lf_proto.specs.ReplyText.{reply_text}
 use Rattle.lf_cells.specs.declared.cell.Cell.{Cell}
 use Rattle.lf_cells.specs.Cells.{cell_named, working_at}
 use Rattle.lf_floor_model.specs.States.{TeamState, FloorState}
 use Rattle.lf_floor_model.specs.Teams.{IsTeamOf, TeamRules, state_of, team_number, team_rules}
-use Rattle.lf_floor_model.specs.Outcomes.{Outcome, is_short, may_be_short, name_at}
-use Rattle.lf_floor_model.specs.Sessions.{closed, opened, opened_at, seen_at}
+use Rattle.lf_floor_model.specs.Outcomes.{is_short, may_be_short, name_at}
+use Rattle.lf_floor_model.specs.Sessions.{closed, opened, opened_at, seen_at, synced}
 use Rattle.lf_floor_model.specs.Queries.{best_at, checked, found, located, written}
 use Rattle.lf_floor_model.specs.Verbs.{outcome_by_slot, outcome_within}
 use Rattle.lf_floor_model.specs.VerbLaws.{is_ok}
 use Rattle.lf_floor_model.specs.Journals.{is_query}
-use Rattle.lf_floor_model.specs.Steps.{Answer, AllocatesNothing, IsAnswerOf, IsGivenAnswer, MayRunOutOfMemory, Step, answer_at, answer_of, answer_of_outcome, outcome_by_rules}
+use Rattle.lf_floor_model.specs.Steps.{Answer, AllocatesNothing, IsAnswerOf, MayRunOutOfMemory, Step, answer_at, answer_of, answer_of_outcome, outcome_by_rules}
 use Rattle.lf_floor_model.proofs.Forms.{answer_by, found_at, found_own, located_at, located_own, state_at}
 use Rattle.lf_server.specs.Exchanges.{StepsOn, name_in, reply_cells, reply_text_of}
 use Rattle.lf_hub_floor.specs.Answers.{is_query_action}
-use Rattle.lf_hub_floor.specs.QuerySessions.{HasNoFreeSlot, OpensSession, with_session, with_team}
+use Rattle.lf_hub_floor.specs.QuerySessions.{HasNoFreeSlot, OpensSession, session_opened, with_session, with_team}
 use Rattle.lf_hub_floor.specs.QueryAnswers.{ShowsOrder, ShowsReply, query_reply, queries_only}
-use Rattle.lf_hub_floor.proofs.LongReplies.{kept_unless_lasting, step_answers}
+use Rattle.lf_hub_floor.proofs.LongReplies.{kept_unless_lasting}
 
 -- ---- steps that allocate nothing
 
@@ -63,79 +64,54 @@ team_answer l floor team number order s named there =
 
 -- ---- opening
 
--- A session was opened, or not.
-abbrev pub IsOpenedOrFull : FloorState → List ℕ → Reply → FloorState → Type 0
-IsOpenedOrFull old team reply mid =
-    ((session : ℕ) × (revision : ℕ) × (reply ≡ Opened session revision) × OpensSession old team session mid)
-    ⊎ (((session revision : ℕ) → reply ≡ Opened session revision → ⊥) × HasNoFreeSlot old team mid)
-
-refused_not_opened : (reply : Reply) → is_ok reply ≡ false → (session revision : ℕ) → reply ≡ Opened session revision → ⊥
-refused_not_opened reply denied session revision is = false≢true (sym denied ∙ ap is_ok is)
-
 module _ (old : FloorState) (team : List ℕ) (reply : Reply) (mid : FloorState) where
+  -- A session was opened, or not.
+  abbrev Opening : Option ℕ → Type 0
+  Opening session = MatchOption session (HasNoFreeSlot old team mid) (λ session. OpensSession old team session mid)
+
   by_slot : (number : ℕ) (s : TeamState) → team_number old.frame team ≡ Some number → slice_get old.teams number ≡ Some s
       → (slot : Option ℕ) → position is_none s.slots ≡ slot → reply ≡ (opened_at slot s).reply → mid ≡ with_team number (opened_at slot s).team old
-      → IsOpenedOrFull old team reply mid
-  by_slot number s named there None free reply_is floor_is = inr (refused_not_opened reply (ap is_ok reply_is), record {
-    kept = floor_is ∙ same_team old number s there;
-    full = λ other state named' there'.
-        let number_is : number ≡ other = same_Some number other (sym named ∙ named') in
-        let state_is : s ≡ state = same_Some s state (sym there ∙ (ap (slice_get old.teams) number_is ∙ there')) in
-        subst (λ (t : TeamState). position is_none t.slots ≡ None) state_is free;
-  })
-  by_slot number s named there (Some session) free reply_is floor_is = inl (session, s.revision, reply_is, record {
-    number = number;
-    state = s;
-    named = named;
-    there = there;
-    free = free;
-    is = floor_is;
-  })
+      → Opening (session_opened reply)
+  by_slot number s named there None free reply_is floor_is =
+      let full : HasNoFreeSlot old team mid = record {
+        kept = floor_is ∙ same_team old number s there;
+        full = λ other state named' there'.
+            let number_is : number ≡ other = same_Some number other (sym named ∙ named') in
+            let state_is : s ≡ state = same_Some s state (sym there ∙ (ap (slice_get old.teams) number_is ∙ there')) in
+            subst (λ (t : TeamState). position is_none t.slots ≡ None) state_is free;
+      } in
+      subst Opening (sym (ap session_opened reply_is)) full
+  by_slot number s named there (Some session) free reply_is floor_is =
+      let opens : OpensSession old team session mid =
+      record { number = number; state = s; named = named; there = there; free = free; is = floor_is } in
+      subst Opening (sym (ap session_opened reply_is)) opens
 
   by_state : (l : Legalizer) (number : ℕ) → team_number old.frame team ≡ Some number → (o : Option TeamState) → slice_get old.teams number ≡ o
-      → reply ≡ (answer_by o l old number Open).reply → mid ≡ (answer_by o l old number Open).floor → IsOpenedOrFull old team reply mid
+      → reply ≡ (answer_by o l old number Open).reply → mid ≡ (answer_by o l old number Open).floor → Opening (session_opened reply)
   unfolding opened
-  by_state l number named None none reply_is floor_is = inr (refused_not_opened reply (ap is_ok reply_is), record {
-    kept = floor_is;
-    full = λ other state named' there'.
-        let number_is : number ≡ other = same_Some number other (sym named ∙ named') in
-        absurd (none-some state (sym none ∙ (ap (slice_get old.teams) number_is ∙ there')));
-  })
+  by_state l number named None none reply_is floor_is =
+      let full : HasNoFreeSlot old team mid = record {
+        kept = floor_is;
+        full = λ other state named' there'.
+            let number_is : number ≡ other = same_Some number other (sym named ∙ named') in
+            absurd (none-some state (sym none ∙ (ap (slice_get old.teams) number_is ∙ there')));
+      } in
+      subst Opening (sym (ap session_opened reply_is)) full
   by_state l number named (Some s) there reply_is floor_is = by_slot number s named there (position is_none s.slots) refl reply_is floor_is
 
   by_number : (l : Legalizer) (o : Option ℕ) → team_number old.frame team ≡ o → reply ≡ (answer_at o l old Open).reply
-      → mid ≡ (answer_at o l old Open).floor → IsOpenedOrFull old team reply mid
-  by_number l None none reply_is floor_is = inr (refused_not_opened reply (ap is_ok reply_is), record {
-    kept = floor_is;
-    full = λ other state named' there'. absurd (none-some other (sym none ∙ named'));
-  })
+      → mid ≡ (answer_at o l old Open).floor → Opening (session_opened reply)
+  by_number l None none reply_is floor_is =
+      let full : HasNoFreeSlot old team mid = record { kept = floor_is; full = λ other state named' there'. absurd (none-some other (sym none ∙ named')) } in
+      subst Opening (sym (ap session_opened reply_is)) full
   by_number l (Some number) named reply_is floor_is = by_state l number named (slice_get old.teams number) refl reply_is floor_is
 
-  by_answer : (l : Legalizer) → IsAnswerOf l old (To team Open) reply mid → IsOpenedOrFull old team reply mid
+  by_answer : (l : Legalizer) → IsAnswerOf l old (To team Open) reply mid → Opening (session_opened reply)
   unfolding answer_of
   by_answer l answers = by_number l (team_number old.frame team) refl answers.reply_is answers.floor_is
 
-  opened_or_full : (l : Legalizer) → Step l old (To team Open) reply mid → IsOpenedOrFull old team reply mid
-  opened_or_full l step = by_answer l (by_short l old mid (To team Open) reply (is_short reply) step refl)
-
-  opened_same : (session n r revision : ℕ) → Opened n r ≡ Opened session revision → OpensSession old team n mid → OpensSession old team session mid
-  opened_same session n r revision is opens =
-      let n_is : n ≡ session = cc in
-      subst (λ (k : ℕ). OpensSession old team k mid) n_is opens
-
-  pub opens_session : (l : Legalizer) (session revision : ℕ) → Step l old (To team Open) reply mid → reply ≡ Opened session revision
-      → OpensSession old team session mid
-  opens_session l session revision step is = elim (opened_or_full l step) [
-    | inl (n, r, reply_is, opens) ↦ opened_same session n r revision (sym reply_is ∙ is) opens
-    | inr (never, full) ↦ absurd (never session revision is)
-  ]
-
-  pub opens_none : (l : Legalizer) → Step l old (To team Open) reply mid → ((session revision : ℕ) → reply ≡ Opened session revision → ⊥)
-      → HasNoFreeSlot old team mid
-  opens_none l step never = elim (opened_or_full l step) [
-    | inl (n, r, reply_is, opens) ↦ absurd (never n r reply_is)
-    | inr (differs, full) ↦ full
-  ]
+  pub opens_session : (l : Legalizer) → Step l old (To team Open) reply mid → Opening (session_opened reply)
+  opens_session l step = by_answer l (by_short l old mid (To team Open) reply (is_short reply) step refl)
 
 -- ---- the team with the session
 
@@ -337,9 +313,13 @@ some_seen : (o : Option ℕ) → is_none o ≡ false → (n : ℕ) × (o ≡ Som
 some_seen None e = absurd (false≢true (sym e))
 some_seen (Some n) e = (n, refl)
 
+zero_within : (n : ℕ) → 0 < n → nat_lt 0 n ≡ true
+zero_within n within = grind (arith, nat_tests)
+
 none_is : (slots : List (Option ℕ)) → position is_none slots ≡ None → 0 < length slots → is_none (get_or slots 0 None) ≡ false
 none_is [] none some = absurd (omega arith)
-none_is (None ∷ slots) none some = absurd (none-some 0 (sym none))
+none_is (None ∷ slots) none some =
+    absurd (none-some 0 (sym none ∙ ap (λ (b : Bool). cond b (Some 0) None) (zero_within (suc (length slots)) some)))
 none_is (Some n ∷ slots) none some = refl
 
 sessions_there : (old : FloorState) (number : ℕ) (s : TeamState) → All (λ s. IsTeamOf old.frame s) old.teams → slice_get old.teams number ≡ Some s
@@ -366,3 +346,44 @@ shows_without_slot l old new team any query reply text is steps full teams = λ 
       is = said_by l old new command reply expected (is_short reply) refl steps.step answer_is;
       text_is = steps.text_is ∙ ap (λ (f : FloorState). reply_text_of f team reply) (query_keeps l old new team 0 query reply is steps.step);
     } number s named there
+
+-- The same, after no session was opened.
+pub shows_unopened : (l : Legalizer) (old mid new : FloorState) (team : List ℕ) (any : ℕ) (query : Action (List ℕ) Place) (reply : Reply) (text : List ℕ)
+    → is_query_action query ≡ true → StepsOn l mid (To team (Within 0 query)) reply text new
+    → HasNoFreeSlot old team mid → All (λ s. IsTeamOf old.frame s) old.teams → ShowsOrder l old team (Within any query) text
+shows_unopened l old mid new team any query reply text is steps full teams =
+    shows_without_slot l old new team any query reply text is
+    (subst (λ (f : FloorState). StepsOn l f (To team (Within 0 query)) reply text new) full.kept steps)
+    (subst (λ (f : FloorState). HasNoFreeSlot old team f) full.kept full) teams
+
+-- ---- replies that name the revision, and the reply to `close`
+
+pub revision_shows : (l : Legalizer) (floor : FloorState) (team : List ℕ) (session revision : ℕ) (text : List ℕ)
+    → ((number : ℕ) (s : TeamState) → team_number floor.frame team ≡ Some number → slice_get floor.teams number ≡ Some s → revision ≡ s.revision)
+    → text ≡ reply_text_of floor team (Revision revision) → ShowsOrder l floor team (Within session Sync) text
+unfolding synced
+revision_shows l floor team session revision text current is = λ number s named there. record {
+  reply = Revision revision;
+  is = inl (ap (λ (n : ℕ). Revision n) (current number s named there));
+  text_is = is;
+}
+
+pub open_shows : (l : Legalizer) (floor : FloorState) (team : List ℕ) (revision : ℕ) (text : List ℕ)
+    → ((number : ℕ) (s : TeamState) → team_number floor.frame team ≡ Some number → slice_get floor.teams number ≡ Some s → revision ≡ s.revision)
+    → text ≡ reply_text_of floor team (Opened 0 revision) → ShowsOrder l floor team Open text
+open_shows l floor team revision text current is = λ number s named there. record {
+  reply = Opened 0 revision;
+  is = inl (ap (λ (n : ℕ). Opened 0 n) (current number s named there));
+  text_is = is;
+}
+
+pub close_shows : (l : Legalizer) (floor : FloorState) (team : List ℕ) (session : ℕ) (text : List ℕ)
+    → text ≡ reply_text Done [] [] → ShowsOrder l floor team (Within session Close) text
+unfolding closed
+close_shows l floor team session text is = λ number s named there. record { reply = Done; is = inl refl; text_is = is }
+
+-- The same for an action that is known.
+pub shows_same : (l : Legalizer) (floor : FloorState) (team : List ℕ) (session : ℕ) (action known : Action (List ℕ) Place) (text : List ℕ) → action ≡ known
+    → ShowsOrder l floor team (Within session known) text → ShowsOrder l floor team (Within session action) text
+shows_same l floor team session action known text is shows =
+    subst (λ (a : Action (List ℕ) Place). ShowsOrder l floor team (Within session a) text) (sym is) shows

@@ -1,12 +1,12 @@
 -- Accepted changes and their replies can be records: each is one line without a zero byte.
-use Rattle.std.proofs.Common.{◌≡◌, ℕ, zero, suc, ◌+◌, ◌-◌, ◌/◌, ◌%◌, ◌<◌, List, [], ◌∷◌, ◌++◌, length, take, get_or, Bool, true, false, ◌==◌, ◌&&◌, not, cond, Option, Some, None, refl, ap, sym, ◌∙◌, subst, arith, append-nil, ℤ, pos, negsuc}
-use Rattle.std.specs.Prelude.{decimal, codes, nat_le, option_and_then}
+use Rattle.std.proofs.Common.{◌≡◌, ℕ, zero, suc, ◌+◌, ◌-◌, ◌/◌, ◌%◌, ◌<◌, List, [], ◌∷◌, ◌++◌, length, take, get_or, Bool, true, false, ◌==◌, ◌&&◌, not, cond, Some, None, refl, ap, sym, ◌∙◌, arith, append-nil, ℤ, pos, negsuc}
+use Rattle.std.specs.Prelude.{decimal, nat_le, option_and_then}
 use Rattle.std.specs.List.{list_all, join_with_byte}
 use Rattle.std.specs.Fmt.{signed_decimal, digits, digits_onto, digit_glyph}
-use Rattle.std.proofs.lemmas.Bool.{and_parts, false≢true}
+use Rattle.std.proofs.lemmas.Bool.{false≢true}
 use Rattle.std.proofs.lemmas.Bool.Decides.{nat_tests}
 use Rattle.std.proofs.lemmas.List.Folds.{list_all-append, list_all_more}
-use Rattle.std.proofs.lemmas.Option.{cond_some, option_and_then_some, none-some}
+use Rattle.std.proofs.lemmas.Option.{none-some}
 use Rattle.lf_orient.specs.declared.Orient.{Orient}
 use Rattle.lf_orient.specs.declared.Orient.TheVariants.{N, W, S, E, FN, FW, FS, FE}
 use Rattle.lf_orient.specs.Words.{orient_word}
@@ -17,7 +17,7 @@ use Rattle.lf_proto.specs.declared.reply.Reply.TheVariants.{Done, Opened, Revisi
 use Rattle.lf_proto.specs.Lines.{fields, is_line_byte}
 use Rattle.lf_proto.specs.Requests.{command_in, command_on}
 use Rattle.lf_proto.specs.ReplyText.{reply_text, reply_words}
-use Rattle.lf_proto.specs.Stream.{ended_line, without_return}
+use Rattle.lf_proto.specs.Stream.{without_return}
 use Rattle.lf_proto.proofs.Fields.{line_head}
 use Rattle.lf_journal_text.specs.Records.{is_line}
 use Rattle.lf_floor_model.specs.VerbLaws.{is_ok}

@@ -1,5 +1,5 @@
 -- What the lines of a hub do to the floor is a run, and changes no other team.
-use Rattle.std.proofs.Common.{◌≡◌, ◌≢◌, inl, inr, ℕ, List, [], ◌∷◌, Bool, true, false, cond, Option, Some, None, refl, ap, sym, ◌∙◌, subst}
+use Rattle.std.proofs.Common.{◌≡◌, inl, inr, ℕ, List, [], ◌∷◌, Bool, true, false, cond, Option, Some, refl, ap, sym, ◌∙◌, subst}
 use Rattle.std.specs.Prelude.{MatchBool}
 use Rattle.std.proofs.lemmas.Bool.{false≢true}
 use Rattle.lf_floorplan.specs.declared.place.Place.{Place}
@@ -9,9 +9,9 @@ use Rattle.lf_proto.specs.declared.reply.Reply.{Reply}
 use Rattle.lf_floor_model.specs.States.{FloorState}
 use Rattle.lf_floor_model.specs.Teams.{state_of}
 use Rattle.lf_floor_model.specs.Outcomes.{is_short}
-use Rattle.lf_floor_model.specs.Steps.{IsAnswerOf, IsTo, MayRunOutOfMemory, Step}
+use Rattle.lf_floor_model.specs.Steps.{IsAnswerOf, IsTo, MayRunOutOfMemory}
 use Rattle.lf_floor_model.specs.Runs.{Run}
-use Rattle.lf_floor_model.specs.Journals.{is_lasting, lasting, marked, which_last}
+use Rattle.lf_floor_model.specs.Journals.{is_lasting, marked, which_last}
 use Rattle.lf_floor_model.proofs.Answering.{others_kept}
 use Rattle.lf_floor_model.proofs.Isolation.{step_frame}
 use Rattle.lf_server.specs.Laws.{with_command}
@@ -19,8 +19,7 @@ use Rattle.lf_hub_clients.specs.declared.client.Access.{Access}
 use Rattle.lf_hub_clients.specs.declared.client.Access.TheVariants.{Changes, Queries}
 use Rattle.lf_hub_clients.specs.declared.floor.Outcome.{Outcome}
 use Rattle.lf_hub_clients.specs.Turns.{Turn, FloorAnswers, IsAnswered, is_change}
-use Rattle.lf_hub.specs.Laws.{Follow}
-use Rattle.lf_hub_floor.specs.Answers.{Answers, AnswersLine, AnswersOwn, name_of_team, request_on}
+use Rattle.lf_hub_floor.specs.Answers.{Answers, name_of_team, request_on}
 use Rattle.lf_hub_floor.specs.QueryAnswers.{Shows}
 use Rattle.lf_hub_floor.specs.Laws.{ChangesCanBeRecorded, IsRunOf, KeepsOthers, OthersAreKept, TurnsRun, changes_in}
 use Rattle.lf_hub_floor.proofs.LineCases.{IsOut, IsOwnLine, change_is_lasting, lasting_is_no_query, lasting_is_ok, line_cases, own_is_to}
@@ -114,10 +113,10 @@ pub changes_are_lines : ChangesCanBeRecorded
 changes_are_lines l team line text outcome old new answers changes = elim (line_cases l team line old text outcome new answers) [
   | inl out ↦ absurd (false≢true (sym out.unchanged ∙ changes))
   | inr own ↦
-    let reply = own.answers.reply in
-    let lasts : is_lasting own.command reply ≡ true =
-    sym (change_is_lasting own.command reply) ∙ (sym (ap is_change own.answers.outcome_is) ∙ changes) in
-    can_be_recorded line text reply _ _ (request_line line own.command own.requested) (lasting_is_ok own.command reply lasts)
-    (others_are_short l old new own.command reply own.answers.steps.step (lasting_is_no_query own.command reply lasts))
-    own.answers.steps.text_is
+      let reply = own.answers.reply in
+      let lasts : is_lasting own.command reply ≡ true =
+      sym (change_is_lasting own.command reply) ∙ (sym (ap is_change own.answers.outcome_is) ∙ changes) in
+      can_be_recorded line text reply _ _ (request_line line own.command own.requested) (lasting_is_ok own.command reply lasts)
+      (others_are_short l old new own.command reply own.answers.steps.step (lasting_is_no_query own.command reply lasts))
+      own.answers.steps.text_is
 ]

@@ -9,7 +9,7 @@ use Rattle.lf_proto.specs.declared.request.Command.TheVariants.{Bye, To}
 use Rattle.lf_proto.specs.declared.request.TeamCommand.{TeamCommand}
 use Rattle.lf_proto.specs.declared.request.TeamCommand.TheVariants.{Open, Within}
 use Rattle.lf_proto.specs.declared.verb.Action.{Action}
-use Rattle.lf_proto.specs.declared.verb.Action.TheVariants.{Close, Sync, Check, Def, Where, Find, Change as Changing}
+use Rattle.lf_proto.specs.declared.verb.Action.TheVariants.{Close}
 use Rattle.lf_proto.specs.declared.reply.Reply.{Reply}
 use Rattle.lf_proto.specs.declared.reply.Reply.TheVariants.{Done, Opened as OpenedReply, Refused}
 use Rattle.lf_proto.specs.declared.reply.Refusal.TheVariants.{BadRequest, NoTeam}
@@ -66,14 +66,9 @@ closes_session session requested = option_map_or (closes_by session) requested f
 
 -- ---- outcomes
 
+-- Whether the action is a query, whatever its team and session.
 abbrev pub is_query_action : Action (List ℕ) Place → Bool
-is_query_action Check = true
-is_query_action Def = true
-is_query_action (Where name) = true
-is_query_action (Find name target) = true
-is_query_action Close = false
-is_query_action Sync = false
-is_query_action (Changing change) = false
+is_query_action action = is_query (To [] (Within 0 action))
 
 -- What an accepted command that is not a query does.
 abbrev pub change_made : TeamCommand (List ℕ) Place → Reply → Outcome
@@ -81,13 +76,10 @@ change_made Open (OpenedReply session revision) = Opened session
 change_made (Within session Close) reply = Closed session
 change_made order reply = Changed
 
-abbrev pub outcome_to : List ℕ → TeamCommand (List ℕ) Place → Reply → Outcome
-outcome_to team order reply = cond (is_lasting (To team order) reply) (change_made order reply) Unchanged
-
 -- The outcome of a command with this reply: what lasts is a change.
 abbrev pub outcome_of : Command (List ℕ) Place → Reply → Outcome
 outcome_of Bye reply = Ended
-outcome_of (To team order) reply = outcome_to team order reply
+outcome_of (To team order) reply = cond (is_lasting (To team order) reply) (change_made order reply) Unchanged
 
 -- ---- answers
 

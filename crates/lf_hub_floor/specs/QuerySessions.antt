@@ -1,5 +1,7 @@
 -- A session that is opened for a query, and closed after it.
-use Rattle.std.specs.Prelude.{◌≡◌, ℕ, List, Some, None, position, is_none, slice_get, slice_set}
+use Rattle.std.specs.Prelude.{◌≡◌, ℕ, List, Option, Some, None, position, is_none, slice_get, slice_set}
+use Rattle.lf_proto.specs.declared.reply.Reply.{Reply}
+use Rattle.lf_proto.specs.declared.reply.Reply.TheVariants.{Opened}
 use Rattle.lf_floor_model.specs.States.{TeamState, FloorState}
 use Rattle.lf_floor_model.specs.Teams.{team_number}
 
@@ -9,6 +11,11 @@ with_session session s = record s { slots = slice_set s.slots session (Some s.re
 
 abbrev pub with_team : ℕ → TeamState → FloorState → FloorState
 with_team number s floor = record floor { teams = slice_set floor.teams number s }
+
+-- The session that a reply says was opened.
+abbrev pub session_opened : Reply → Option ℕ
+session_opened (Opened session revision) = Some session
+session_opened _ = None
 
 -- The team of this name has opened a session, which took its least free slot.
 pub record OpensSession (old : FloorState) (team : List ℕ) (session : ℕ) (new : FloorState) : Type 0 where

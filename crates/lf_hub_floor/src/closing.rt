@@ -46,26 +46,22 @@ fn closes(line: &[u8], session: u32) -> bool
     ensures { result ≡ closes_session session (request_on line.now) }
 {
     match request_of_line(ended_line(line)) {
-        Some(Command::To {
-            order:
-                TeamCommand::Within {
+        Some(
+            Command::To {
+                order: TeamCommand::Within {
                     session: closed,
                     action: Action::Close,
                 },
-            ..
-        }) => closed == session,
+                ..
+            },
+        ) => closed == session,
         _ => false,
     }
 }
 
 /// Writes the line that closes a session of the team of this number into an empty buffer. The line
 /// is empty if there is no such team, or if its name cannot be in a line.
-fn write_close<K: Seeker + Drop>(
-    line: &mut Vec<u8>,
-    floor: &Floor<K>,
-    team: u32,
-    session: u32,
-)
+fn write_close<K: Seeker + Drop>(line: &mut Vec<u8>, floor: &Floor<K>, team: u32, session: u32)
     requires empty { line.old.items ≡ [] }
     requires room { 4096 ≤ vec_capacity line.old }
     ensures closes { (closes_session session (request_on line.new.items) ≡ true) ⊎ (line.new.items ≡ []) }
@@ -85,7 +81,7 @@ fn write_close<K: Seeker + Drop>(
 }
 
 /// Closes a session of the team of this number: writes the line that does so, and answers it.
-#[tactic(auto, using(crate::proofs::ClosingLines::closes_outcome, crate::proofs::ClosingLines::closes_no_query))]
+#[tactic(auto, using(crate::proofs::ClosingLines::closes_no_query))]
 pub(crate) fn close_session<K: Seeker + Drop>(
     floor: &mut Floor<K>,
     team: u32,

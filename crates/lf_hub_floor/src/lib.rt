@@ -4,8 +4,9 @@
 //! with three exceptions. A command of another team gets `NoTeam` and changes nothing. `iam NAME` gives
 //! the connection a label. A report or a DEF text that has no memory gets `OutOfMemory`.
 //!
-//! On a query socket a line changes nothing. `where`, `find`, `check` and `def` get the reply that they
-//! get in any session; a change gets `QueriesOnly`.
+//! On a query socket a line changes nothing, and no session takes a slot. `where`, `find`, `check` and
+//! `def` get the reply that they get in any session, `open` and `sync` get the team's revision, and a
+//! change gets `QueriesOnly`.
 //!
 //! Contracts say which reply, outcome and floor a line gives (`AnswersLine`), by the steps of
 //! `lf_floor_model`. The laws follow: what the hub's lines do to the floor is a run of the floor, other
@@ -27,8 +28,8 @@
 //! From `crates/lf_tests_hub/src/floors.rt`:
 //!
 //! ```
-//! let mut floor = TeamFloor::new(floor(alloc)?);
-//! let outcome = floor.answer(0, b"open A", &mut reply);
+//! let mut text = Vec::with_capacity(alloc, ROOM)?;
+//! let answered = floor.answer(team, line, &mut text);
 //! ```
 #![tactic(auto)]
 

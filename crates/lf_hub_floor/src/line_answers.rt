@@ -65,15 +65,18 @@ pub(crate) fn can_change(line: &[u8]) -> bool
 {
     match request_of_line(ended_line(line)) {
         None => false,
-        Some(Command::Bye) => false,
-        Some(Command::To { order, .. }) => !is_query(&order),
+        Some(request) => !is_query(&request),
     }
 }
 
 /// Executes a command, and writes the text of the reply into an empty buffer. Returns the reply, which
 /// is `OutOfMemory` if its text has no memory.
-#[tactic(auto, using(crate::proofs::Executing::short_steps, crate::proofs::LongReplies::others_are_short))]
-pub(crate) fn execute<K: Seeker + Drop>(floor: &mut Floor<K>, request: &Request, text: &mut Vec<u8>) -> Reply
+#[tactic(auto, using(crate::proofs::Executing::short_steps))]
+pub(crate) fn execute<K: Seeker + Drop>(
+    floor: &mut Floor<K>,
+    request: &Request,
+    text: &mut Vec<u8>,
+) -> Reply
     requires empty { text.old.items ≡ [] }
     requires room { 4096 ≤ vec_capacity text.old }
     ensures steps { (l : Legalizer)
@@ -92,7 +95,7 @@ pub(crate) fn execute<K: Seeker + Drop>(floor: &mut Floor<K>, request: &Request,
 }
 
 /// Answers a command of the socket's team.
-#[tactic(auto, using(crate::proofs::Executing::unchanged_keeps, crate::proofs::LineCases::change_is_lasting, crate::proofs::LineCases::lasting_is_no_query))]
+#[tactic(auto, using(crate::proofs::LineCases::change_is_lasting, crate::proofs::LineCases::lasting_is_no_query))]
 fn answer_own<K: Seeker + Drop>(
     floor: &mut Floor<K>,
     request: &Request,

@@ -1,12 +1,11 @@
 //! What a reply says of its command.
 
-ghost use Rattle.std.specs.Prelude.{◌≡◌, ℕ, List};
+ghost use Rattle.std.specs.Prelude.{◌≡◌};
 ghost use Rattle.lf_proto.specs.Commands.{command_with_names, order_of};
 ghost use Rattle.lf_proto.specs.Verbs.{action_of};
-ghost use Rattle.lf_proto.specs.declared.request.Command.TheVariants.{To};
-ghost use Rattle.lf_floor_model.specs.Journals.{is_query};
+ghost use Rattle.lf_floor_model.specs.Journals.{is_lasting, is_query};
 ghost use Rattle.lf_floor_model.specs.VerbLaws.{is_ok};
-ghost use Rattle.lf_hub_floor.specs.Answers.{change_made, is_query_action, outcome_of, outcome_to};
+ghost use Rattle.lf_hub_floor.specs.Answers.{change_made, is_query_action, outcome_of};
 
 use lf_hub_clients::Outcome;
 use lf_proto::{Action, Command, Reply, Request, TeamCommand};
@@ -37,12 +36,15 @@ fn is_query_action(action: &Action<&[u8]>) -> bool
 }
 
 /// Returns whether the command is a query.
-pub(crate) fn is_query(order: &TeamCommand<&[u8]>) -> bool
-    ensures { (team : List ℕ) → result ≡ is_query (To team (order_of order.now)) }
+pub(crate) fn is_query(request: &Request) -> bool
+    ensures { result ≡ is_query (command_with_names request.now) }
 {
-    match order {
-        TeamCommand::Open => false,
-        TeamCommand::Within { action, .. } => is_query_action(action),
+    match request {
+        Command::Bye => true,
+        Command::To { order, .. } => match order {
+            TeamCommand::Open => false,
+            TeamCommand::Within { action, .. } => is_query_action(action),
+        },
     }
 }
 
@@ -62,25 +64,26 @@ fn change_made(order: &TeamCommand<&[u8]>, reply: &Reply) -> Outcome
     }
 }
 
-/// Returns the outcome of a team's command with this reply.
-fn outcome_to(order: &TeamCommand<&[u8]>, reply: &Reply) -> Outcome
-    ensures { (team : List ℕ) → result ≡ outcome_to team (order_of order.now) reply.now }
+/// Returns whether the command was accepted and is not a query.
+fn is_lasting(request: &Request, reply: &Reply) -> bool
+    ensures { result ≡ is_lasting (command_with_names request.now) reply.now }
 {
-    if !is_ok(reply) {
-        return Outcome::Unchanged;
-    }
-    if is_query(order) {
-        return Outcome::Unchanged;
-    }
-    change_made(order, reply)
+    is_ok(reply) && !is_query(request)
 }
 
 /// Returns the outcome of a command with this reply.
 pub(crate) fn outcome_of(request: &Request, reply: &Reply) -> Outcome
     ensures { result ≡ outcome_of (command_with_names request.now) reply.now }
 {
+    let lasts = is_lasting(request, reply);
     match request {
         Command::Bye => Outcome::Ended,
-        Command::To { order, .. } => outcome_to(order, reply),
+        Command::To { order, .. } => {
+            if lasts {
+                change_made(order, reply)
+            } else {
+                Outcome::Unchanged
+            }
+        }
     }
 }

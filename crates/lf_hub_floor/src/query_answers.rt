@@ -11,7 +11,7 @@ ghost use Rattle.lf_floor_model.specs.Teams.{team_number};
 ghost use Rattle.lf_server.specs.Exchanges.{StepsOn};
 ghost use Rattle.lf_hub_floor.specs.Answers.{is_query_action};
 ghost use Rattle.lf_hub_floor.specs.QueryAnswers.{ShowsLine, ShowsOrder};
-ghost use Rattle.lf_hub_floor.specs.QuerySessions.{HasNoFreeSlot, OpensSession};
+ghost use Rattle.lf_hub_floor.specs.QuerySessions.{HasNoFreeSlot, OpensSession, session_opened};
 
 use crate::line_answers::{execute, is_own};
 use crate::reply_texts::put;
@@ -22,9 +22,18 @@ use lf_proto::{Action, Command, Reply, TeamCommand};
 use lf_rules::legalizer_exists;
 use lf_server::{request_of_line, write_short_reply};
 
+/// Returns the session that the reply says was opened.
+fn session_opened(reply: &Reply) -> Option<u32>
+    ensures { result ≡ session_opened reply.now }
+{
+    match reply {
+        Reply::Opened { session, .. } => Some(*session),
+        _ => None,
+    }
+}
+
 /// Opens a session of the team of this name, for a query. `None` if no slot is free, or if there is
 /// no such team; then the floor is as it was.
-#[tactic(auto, using(crate::proofs::QuerySessions::opens_session, crate::proofs::QuerySessions::opens_none))]
 fn open_session<K: Seeker + Drop>(floor: &mut Floor<K>, team: &[u8]) -> Option<u32>
     ensures { MatchOption result (HasNoFreeSlot floor.old team.now floor.new)
         (λ session. OpensSession floor.old team.now session floor.new) }
@@ -34,14 +43,11 @@ fn open_session<K: Seeker + Drop>(floor: &mut Floor<K>, team: &[u8]) -> Option<u
         team,
         order: TeamCommand::Open,
     };
-    match floor.step(&request) {
-        Reply::Opened { session, .. } => Some(session),
-        _ => None,
-    }
+    let reply = floor.step(&request);
+    session_opened(&reply)
 }
 
 /// Closes the session after the query. The floor is then as it was before it was opened.
-#[tactic(auto, using(crate::proofs::QuerySessions::closes_session))]
 fn close_session<K: Seeker + Drop>(floor: &mut Floor<K>, team: &[u8], session: u32)
     ensures { (before : FloorState) → OpensSession before team.now session floor.old → floor.new ≡ before }
 {
@@ -79,14 +85,13 @@ fn execute_within<K: Seeker + Drop>(
 
 /// Answers a query of the team in a session that is opened for it, or in session 0 if no slot is
 /// free.
-#[tactic(auto, using(crate::proofs::QuerySessions::shows_in_session, crate::proofs::QuerySessions::shows_without_slot, crate::proofs::QuerySessions::query_keeps))]
 fn look_query<K: Seeker + Drop>(
     floor: &mut Floor<K>,
     team: &[u8],
     query: Action<&[u8]>,
     text: &mut Vec<u8>,
 )
-    requires query { is_query_action (action_of query.entry) ≡ true }
+    requires query { is_query_action (action_of query) ≡ true }
     requires empty { text.old.items ≡ [] }
     requires room { 4096 ≤ vec_capacity text.old }
     ensures shows { (l : Legalizer) (session : ℕ)

@@ -53,12 +53,66 @@ fn answers_own_lines(rt: HostRuntime) -> Result<(), Fail> {
     let opened = Outcome::Opened { session: 0 };
     let closed = Outcome::Closed { session: 0 };
     assert!(rt; answers(rt.alloc(), &mut floor, 0, b"open A\r", b"ok 0 0\n", opened)?);
-    assert!(rt; answers(rt.alloc(), &mut floor, 0, b"place A 0 a1 0 0 N", b"ok 1\n", Outcome::Changed)?);
-    assert!(rt; answers(rt.alloc(), &mut floor, 0, b"where A 0 a1", b"ok 0 0 N\n", Outcome::Unchanged)?);
-    assert!(rt; answers(rt.alloc(), &mut floor, 0, b"place A 0 zz 0 0 N", b"no 5 NoCell\n", Outcome::Unchanged)?);
-    assert!(rt; answers(rt.alloc(), &mut floor, 0, b"iam alice@farm1", b"ok\n", Outcome::Named)?);
-    assert!(rt; answers(rt.alloc(), &mut floor, 0, b"iam a b", b"no 1 BadRequest\n", Outcome::Unchanged)?);
-    assert!(rt; answers(rt.alloc(), &mut floor, 0, b"sync A 0\0", b"no 1 BadRequest\n", Outcome::Unchanged)?);
+    assert!(rt;
+        answers(
+            rt.alloc(),
+            &mut floor,
+            0,
+            b"place A 0 a1 0 0 N",
+            b"ok 1\n",
+            Outcome::Changed
+        )?
+    );
+    assert!(rt;
+        answers(
+            rt.alloc(),
+            &mut floor,
+            0,
+            b"where A 0 a1",
+            b"ok 0 0 N\n",
+            Outcome::Unchanged
+        )?
+    );
+    assert!(rt;
+        answers(
+            rt.alloc(),
+            &mut floor,
+            0,
+            b"place A 0 zz 0 0 N",
+            b"no 5 NoCell\n",
+            Outcome::Unchanged
+        )?
+    );
+    assert!(rt;
+        answers(
+            rt.alloc(),
+            &mut floor,
+            0,
+            b"iam alice@farm1",
+            b"ok\n",
+            Outcome::Named
+        )?
+    );
+    assert!(rt;
+        answers(
+            rt.alloc(),
+            &mut floor,
+            0,
+            b"iam a b",
+            b"no 1 BadRequest\n",
+            Outcome::Unchanged
+        )?
+    );
+    assert!(rt;
+        answers(
+            rt.alloc(),
+            &mut floor,
+            0,
+            b"sync A 0\0",
+            b"no 1 BadRequest\n",
+            Outcome::Unchanged
+        )?
+    );
     assert!(rt; answers(rt.alloc(), &mut floor, 0, b"close A 0", b"ok\n", closed)?);
     assert!(rt; answers(rt.alloc(), &mut floor, 0, b"bye", b"ok\n", Outcome::Ended)?);
     Ok(())
@@ -69,8 +123,26 @@ fn answers_own_lines(rt: HostRuntime) -> Result<(), Fail> {
 fn refuses_lines_of_other_teams(rt: HostRuntime) -> Result<(), Fail> {
     let mut floor = floor(rt.alloc())?;
     let opened = Outcome::Opened { session: 0 };
-    assert!(rt; answers(rt.alloc(), &mut floor, 0, b"open B", b"no 2 NoTeam\n", Outcome::Unchanged)?);
-    assert!(rt; answers(rt.alloc(), &mut floor, 7, b"open A", b"no 2 NoTeam\n", Outcome::Unchanged)?);
+    assert!(rt;
+        answers(
+            rt.alloc(),
+            &mut floor,
+            0,
+            b"open B",
+            b"no 2 NoTeam\n",
+            Outcome::Unchanged
+        )?
+    );
+    assert!(rt;
+        answers(
+            rt.alloc(),
+            &mut floor,
+            7,
+            b"open A",
+            b"no 2 NoTeam\n",
+            Outcome::Unchanged
+        )?
+    );
     assert!(rt; answers(rt.alloc(), &mut floor, 1, b"open B", b"ok 0 0\n", opened)?);
     assert!(rt; answers(rt.alloc(), &mut floor, 2, b"open -", b"ok 0 0\n", opened)?);
     Ok(())
@@ -88,7 +160,16 @@ fn closes_sessions(rt: HostRuntime) -> Result<(), Fail> {
     assert!(rt; outcome == Outcome::Closed { session: 0 });
     assert!(rt; line.as_slice() == b"close A 0".as_slice());
     assert!(rt; text.as_slice() == b"ok\n".as_slice());
-    assert!(rt; answers(rt.alloc(), &mut floor, 0, b"sync A 0", b"no 3 NoSession\n", Outcome::Unchanged)?);
+    assert!(rt;
+        answers(
+            rt.alloc(),
+            &mut floor,
+            0,
+            b"sync A 0",
+            b"no 3 NoSession\n",
+            Outcome::Unchanged
+        )?
+    );
     Ok(())
 }
 
@@ -98,11 +179,36 @@ fn looks_without_sessions(rt: HostRuntime) -> Result<(), Fail> {
     let mut floor = floor(rt.alloc())?;
     let opened = Outcome::Opened { session: 0 };
     assert!(rt; shows(rt.alloc(), &mut floor, 0, b"open A", b"ok 0 0\n")?);
-    assert!(rt; shows(rt.alloc(), &mut floor, 0, b"where A 5 a1", b"no 6 Unplaced a1\n")?);
-    assert!(rt; shows(rt.alloc(), &mut floor, 0, b"place A 0 a1 0 0 N", b"no 15 QueriesOnly\n")?);
+    assert!(rt;
+        shows(
+            rt.alloc(),
+            &mut floor,
+            0,
+            b"where A 5 a1",
+            b"no 6 Unplaced a1\n"
+        )?
+    );
+    assert!(rt;
+        shows(
+            rt.alloc(),
+            &mut floor,
+            0,
+            b"place A 0 a1 0 0 N",
+            b"no 15 QueriesOnly\n"
+        )?
+    );
     assert!(rt; shows(rt.alloc(), &mut floor, 0, b"where B 0 b1", b"no 2 NoTeam\n")?);
     assert!(rt; answers(rt.alloc(), &mut floor, 0, b"open A", b"ok 0 0\n", opened)?);
-    assert!(rt; answers(rt.alloc(), &mut floor, 0, b"place A 0 a1 0 0 N", b"ok 1\n", Outcome::Changed)?);
+    assert!(rt;
+        answers(
+            rt.alloc(),
+            &mut floor,
+            0,
+            b"place A 0 a1 0 0 N",
+            b"ok 1\n",
+            Outcome::Changed
+        )?
+    );
     assert!(rt; shows(rt.alloc(), &mut floor, 0, b"where A 0 a1", b"ok 0 0 N\n")?);
     assert!(rt; shows(rt.alloc(), &mut floor, 0, b"sync A 3", b"ok 1\n")?);
     Ok(())
@@ -117,9 +223,26 @@ fn looks_without_free_slots(rt: HostRuntime) -> Result<(), Fail> {
         let mut text = Vec::with_capacity(rt.alloc(), ROOM)?;
         assert!(rt; floor.answer(0, b"open A", &mut text) == opened);
     }
-    assert!(rt; answers(rt.alloc(), &mut floor, 0, b"open A", b"no 10 SessionsFull\n", Outcome::Unchanged)?);
+    assert!(rt;
+        answers(
+            rt.alloc(),
+            &mut floor,
+            0,
+            b"open A",
+            b"no 10 SessionsFull\n",
+            Outcome::Unchanged
+        )?
+    );
     assert!(rt; shows(rt.alloc(), &mut floor, 0, b"open A", b"ok 0 0\n")?);
     assert!(rt; shows(rt.alloc(), &mut floor, 0, b"sync A 9", b"ok 0\n")?);
-    assert!(rt; shows(rt.alloc(), &mut floor, 0, b"where A 9 a1", b"no 6 Unplaced a1\n")?);
+    assert!(rt;
+        shows(
+            rt.alloc(),
+            &mut floor,
+            0,
+            b"where A 9 a1",
+            b"no 6 Unplaced a1\n"
+        )?
+    );
     Ok(())
 }
