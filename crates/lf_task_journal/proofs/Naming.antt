@@ -1,9 +1,8 @@
 -- Names of texts, one after another.
-use Rattle.std.proofs.Common.{◌≡◌, ◌++◌, ◌<◌, ◌≤◌, ◌+◌, ℕ, List, [], ◌∷◌, append_assoc, drop, inl, inr, length, slice_index_or, subst, sym, ap, ◌∙◌}
+use Rattle.std.proofs.Common.{◌++◌, ◌<◌, ◌≤◌, ◌+◌, ℕ, List, [], ◌∷◌, append_assoc, drop, inr, length, slice_index_or, subst, sym, ap, ◌∙◌}
 use Rattle.std.proofs.lemmas.List.{append-nil, drop_all}
 use Rattle.lf_task_faults.specs.declared.faults.Fault.{Fault}
-use Rattle.lf_task_faults.specs.declared.faults.TextKind.TheVariants.{Lef}
-use Rattle.lf_task_designs.specs.Designs.{ReadsFile, IsUnread}
+use Rattle.lf_task_designs.specs.Designs.{ReadsFile}
 use Rattle.lf_task_designs.proofs.DesignSteps.{Path, ahead, written}
 use Rattle.lf_task_journal.specs.Names.{AddsName, AreAdded, AreNames, IsLefUnread}
 
@@ -25,15 +24,6 @@ names_more gives old now next paths i d lt on (name, has, is) =
           (sym (append_assoc now (name ∷ []) names) ∙ ap (λ (l : List (List ℕ)). l ++ names) (sym is)) (here.added (name ∷ names) (has, are));
       unread = λ fault unread. here.unread fault (inr unread);
     }
-
--- A file that is not read is one of all.
-pub unread_here : (gives : ReadsFile) (old now : List (List ℕ)) (paths : List Path) (i : ℕ) (d : Path) (fault : Fault) → i < length paths
-    → NamesOn gives (written paths) (written (drop i paths)) old now → IsUnread gives Lef (slice_index_or paths i d).now fault
-    → IsLefUnread gives (written paths) fault
-unread_here gives old now paths i d fault lt on is =
-    let here : NamesOn gives (written paths) ((slice_index_or paths i d).now ∷ written (drop (i + 1) paths)) old now =
-    subst (λ (rest : List (List ℕ)). NamesOn gives (written paths) rest old now) (ahead paths i d lt) on in
-    here.unread fault (inl is)
 
 -- At the end, all names were added.
 pub names_done : (gives : ReadsFile) (old now : List (List ℕ)) (paths : List Path) (i : ℕ) → length paths ≤ i

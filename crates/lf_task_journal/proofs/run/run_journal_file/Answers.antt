@@ -11,6 +11,6 @@ returns-clause-err g c =
       text = c.in_ok-text.text.items;
       given = rw c.journal_file.ensures.path at c.in_ok-text.ensures.ok;
       refusal = c.in-Err-Refused.refusal;
-      refused = λ l. rw (c.deref.ensures.value, c.deref-2.ensures.value, c.deref-3.ensures.value) at (c.in-Err-Refused.ensures.err l);
+      refused = λ l. rw (c.deref.ensures.value, c.deref-2.ensures.value, c.deref-3.ensures.value) at (rw c.in-Err-Refused.field-0-is at (c.in-Err-Refused.ensures.err l));
       reported = (refl, refl);
     })
