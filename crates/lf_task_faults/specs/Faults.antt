@@ -316,10 +316,13 @@ text_refusal_words file refusal =
     else codes "lefence: " ++ file_words file ++ refused_words file refusal refusal.hint ++ 10 ∷ []
 
 -- Which part of a hub fails, and its folder.
+abbrev pub hub_part : HubFailure → List ℕ
+hub_part (hub.Journal why) = codes "the journal in "
+hub_part hub.InUse = codes "the journal in "
+hub_part (hub.Socket why) = codes "a socket in "
+
 abbrev pub hub_part_words : List ℕ → HubFailure → List ℕ
-hub_part_words folder (hub.Journal why) = codes "the journal in " ++ shown_bytes folder
-hub_part_words folder hub.InUse = codes "the journal in " ++ shown_bytes folder
-hub_part_words folder (hub.Socket why) = codes "a socket in " ++ shown_bytes folder
+hub_part_words folder why = hub_part why ++ shown_bytes folder
 
 -- The file, path, port or team at fault.
 abbrev pub subject_words : Fault → List ℕ

@@ -4,7 +4,7 @@ ghost use Rattle.std.specs.Prelude.{◌≡◌, ◌<◌, ◌++◌, OnErr, OnOk, t
 ghost use Rattle.std.specs.Io.KnownBytes.{Appends};
 ghost use Rattle.std.specs.Char.{digit_char};
 ghost use Rattle.lf_task_faults.specs.Faults.{beside_words, bytes_words, complaint_line, complaint_words, compressed_words, earlier_words, fence_words, file_words, first_words};
-ghost use Rattle.lf_task_faults.specs.Faults.{hint_words, hub_failure_words, hub_part_words, is_memory, conflict_words, number_words, output_kind_words, output_words, overlapped_fence_words, port_text, reason_words, refused_words, remark_words, text_refusal_words};
+ghost use Rattle.lf_task_faults.specs.Faults.{hint_words, hub_failure_words, hub_part, hub_part_words, is_memory, conflict_words, number_words, output_kind_words, output_words, overlapped_fence_words, port_text, reason_words, refused_words, remark_words, text_refusal_words};
 ghost use Rattle.lf_task_faults.specs.Faults.{second_line, shown_bytes, shown_byte, shown_line, fence_line_words, journal_line, state_line, state_team_words, subject_words, team_complaint, team_words, text_kind_words};
 ghost use Rattle.lf_task_faults.specs.Faults.{claiming_fences_words, unbound_words, unpack_words, unreadable_words, unwritable_words};
 
@@ -441,17 +441,24 @@ fn put_state_team<W: Sink>(sink: &mut W, path: &str, team: &[u8]) -> Result<(), 
     put_shown(sink, team)
 }
 
+/// Returns which part of a hub fails.
+fn hub_part(why: HubFailure) -> &'static [u8]
+    ensures { result.now ≡ hub_part why }
+{
+    match why {
+        HubFailure::Journal(_) => b"the journal in ",
+        HubFailure::InUse => b"the journal in ",
+        HubFailure::Socket(_) => b"a socket in ",
+    }
+}
+
 /// Writes which part of a hub fails, and its folder.
 fn put_hub_part<W: Sink>(sink: &mut W, folder: &str, why: HubFailure) -> Result<(), DeviceFault>
     ensures ok { OnOk result (Appends (W.contents sink.old) (W.contents sink.new) (hub_part_words folder.now why)) }
     ensures failed { OnErr result (W.has_failed sink.new ≡ true) }
     ensures held { W.holds sink.new ≡ W.holds sink.old }
 {
-    match why {
-        HubFailure::Journal(_) => send(sink, b"the journal in ")?,
-        HubFailure::InUse => send(sink, b"the journal in ")?,
-        HubFailure::Socket(_) => send(sink, b"a socket in ")?,
-    }
+    send(sink, hub_part(why))?;
     put_shown(sink, folder.as_bytes())
 }
 
