@@ -1,3 +1,4 @@
 pub mod Services
 pub mod Records
 pub mod Runs
+mod Closings

@@ -28,6 +28,7 @@
 //! - `arrivals`: clients that connect, and what they send
 //! - `answers`: answering lines
 //! - `saving`: records into the journal
+//! - `leftover_sessions`: the sessions that an earlier process has left open
 //! - `departures`: replies that are sent, and clients that leave
 //! - `operator`: the operator's lines
 //! - `serving`: the rounds of a hub
@@ -42,11 +43,13 @@
 mod answers;
 mod arrivals;
 mod departures;
+mod leftover_sessions;
 mod operator;
 mod saving;
 mod server;
 mod serving;
 
+pub use leftover_sessions::close_sessions;
 pub use saving::{time_of, write_records};
 pub use server::{Ending, Failure, Server};
 pub use serving::serve_hub;

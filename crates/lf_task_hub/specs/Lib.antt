@@ -1,2 +1,1 @@
-pub mod Leftovers
 pub mod Hubs

@@ -8,13 +8,12 @@ ghost use Rattle.lf_task_hub.specs.Hubs.{IsHubFault, IsHubServed, IsOfHub, Serve
 use crate::failure::{journal_fault, serving_fault, socket_fault};
 use crate::input::HubInput;
 use crate::journal::{due_beginning, open_journal};
-use crate::leftover_sessions::close_sessions;
 use crate::socket_names::{TeamSocket, doors_of, sockets_of};
 use lf_floor::Floor;
 use lf_hub::Core;
 use lf_hub_floor::TeamFloor;
 use lf_hub_host::HubHost;
-use lf_hub_serve::{Ending, Server, serve_hub, time_of};
+use lf_hub_serve::{Ending, Server, close_sessions, serve_hub, time_of};
 use lf_hub_wire::Wire;
 use lf_journal::Journal;
 use lf_legalize::IndexSeeker;

@@ -12,7 +12,6 @@
 //! - `failure`: faults of a hub
 //! - `socket_names`: the names of the sockets of teams
 //! - `journal`: the journal of a hub, opened and run
-//! - `leftover_sessions`: the sessions that an earlier process has left open
 //! - `hub_task`: the whole task
 //!
 //! From `crates/lf_app/src/tasks.rt`:
@@ -26,7 +25,6 @@ mod failure;
 mod hub_task;
 mod input;
 mod journal;
-mod leftover_sessions;
 mod socket_names;
 
 pub use hub_task::serve_hub_files;

@@ -4,10 +4,11 @@ ghost use Rattle.std.specs.Prelude.{◌≡◌, ◌<◌, ◌^◌, ◌++◌, IfOk,
 ghost use Rattle.lf_hub_clients.specs.Turns.{IsAnswered};
 ghost use Rattle.lf_journal.specs.Journals.{IsSettled};
 ghost use Rattle.lf_hub_serve.specs.Saving.{records_of_file};
-ghost use Rattle.lf_task_hub.specs.Leftovers.{Closes, start_record};
+ghost use Rattle.lf_hub_serve.specs.Leftovers.{Closes, start_record};
 
+use crate::saving::write_records;
+use crate::server::Failure;
 use lf_hub_clients::{Floor, is_change};
-use lf_hub_serve::{Failure, write_records};
 use lf_journal::Journal;
 use sqlite_disk::Disk;
 use std::alloc::{AllocError, Global};
@@ -85,8 +86,9 @@ fn close_team<F: Floor, D: Disk>(
     Ok(())
 }
 
-/// Closes all sessions of so many teams, and puts this into the journal.
-pub(crate) fn close_sessions<F: Floor, D: Disk>(
+/// Closes all sessions of so many teams, and puts this into the journal. So none is left that a client of
+/// an earlier process has opened.
+pub fn close_sessions<F: Floor, D: Disk>(
     alloc: Global,
     time: u64,
     floor: &mut F,
