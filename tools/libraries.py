@@ -70,8 +70,8 @@ GROUPS = {
         "many clients over one floor. `_clients` has the lines and replies of connections, `_turns` says whose line is"
         " next, and `lf_hub` joins them and has the laws. `_lines` reads the lines that the hub answers itself, `_floor`"
         " says how the floor answers the others, `_wire` is its sockets, and `_serve` has the rounds over a wire and a"
-        " journal; the others know no socket and no disk. No program uses these crates yet: the hub that runs is"
-        " `front/lefence/hub`",
+        " journal; the others know no socket and no disk. `_host` has what `lefence hub` needs of the system. The hub"
+        " of the front is `front/lefence/hub`",
     ),
     "floor": Group(
         "lf_floor lf_floor_*",
@@ -82,8 +82,8 @@ GROUPS = {
     "journal": Group(
         "lf_journal lf_journal_*",
         "the journal of a hub. `_text` is its text, `lf_journal` puts batches on a disk, `_file` is a file as a disk,"
-        " and `_run` runs the records of a journal on a floor, for `replay --journal`. No program writes such journals"
-        " yet: the journal of today's hub is `front/lefence/journal`",
+        " and `_run` runs the records of a journal on a floor, for `replay --journal` and `hub`. The journal of the hub"
+        " of the front is `front/lefence/journal`",
     ),
     "repairs": Group(
         "lf_repair_*",
@@ -109,8 +109,8 @@ GROUPS = {
         "tasks over files. `_usage` prints help and messages about wrong words, `_faults` prints faults, `_designs`"
         " opens designs, `_files` has `check`, `describe` and what the other tasks share, `_reports` makes the reports"
         " of wire lengths, repairs and improvements, `_journal` makes the floor with which lines begin, and `_run` runs"
-        " a work on a floor. `_wires`, `_serve`, `_repair` and `_improve` are the other tasks. `lf_app` does what the"
-        " words of a command line request, and `lefence` is the program",
+        " a work on a floor. `_wires`, `_serve`, `_hub`, `_repair` and `_improve` are the other tasks. `lf_app` does"
+        " what the words of a command line request, and `lefence` is the program",
     ),
     "tests": Group("lf_tests_* lefence_rows lefence_bench", "tests in code, worked rows, and the bench of loading"),
 }
@@ -312,7 +312,7 @@ RULES = (
     Rule(
         "sockets",
         Kind.RESERVED,
-        "lf_server lf_task_serve lf_app tests",
+        "lf_server lf_task_serve lf_hub_host lf_app tests",
         "A command is answered the same over a socket, a pipe or a file.",
     ),
     Rule(
