@@ -24,5 +24,5 @@ mod begin;
 mod names;
 mod run;
 
-pub use names::{line_of_files, name_of_state};
 pub use begin::begin_floor;
+pub use names::{line_of_files, name_of_state};

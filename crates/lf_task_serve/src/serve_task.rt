@@ -28,9 +28,7 @@ use lf_laws_roundtrip::loaded_cells_are_exportable;
 use lf_legalize::IndexSeeker;
 use lf_task_designs::{OpenedDesign, SourceText, open_design};
 use lf_task_faults::Fault;
-use lf_task_files::{
-    DesignInput, OutputPaths, check_outputs, start_floor, write_outputs,
-};
+use lf_task_files::{DesignInput, OutputPaths, check_outputs, start_floor, write_outputs};
 use lf_task_journal::begin_floor;
 use lf_write::kept_clauses_suffice;
 use std::alloc::Global;
@@ -169,7 +167,12 @@ pub fn serve_files<'a, D: Devices>(
     ensures unreported { environment.new.faults ≡ environment.old.faults }
     ensures keeps { let io = ⟦<Environment<D> as Shows>⟧.io in KeepsStreams (io environment.old) (io environment.new) }
 {
-    let DesignInput { def, lefs, limits, .. } = inputs;
+    let DesignInput {
+        def,
+        lefs,
+        limits,
+        ..
+    } = inputs;
     let is_text_kept = outputs.export.is_some();
     let design = open_design(alloc, limits, &environment.texts, def, lefs, is_text_kept)?;
     serve_design(alloc, environment, design, inputs, journal, lines, outputs)
