@@ -117,7 +117,12 @@ fn main(rt: HostRuntime) -> ExitCode {
         ToWrite::new(&mut writer),
         ToWrite::new(&mut faults),
         TimedProgress::new(rt.alloc(), &rt, pause(&rt), rt.stderr()),
-        ProcessHost::new(&rt),
     );
-    ExitCode::from(run_program(rt.alloc(), &mut environment, &words))
+    let host = ProcessHost::new(&rt);
+    ExitCode::from(run_program(
+        rt.alloc(),
+        &mut environment,
+        &host,
+        &words,
+    ))
 }

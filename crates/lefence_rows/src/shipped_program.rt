@@ -120,9 +120,8 @@ fn exported_by<R: Read, W: Write, F: Write>(
         ToWrite::new(writer),
         ToWrite::new(faults),
         NoProgress,
-        NoHub,
     );
-    perform_over(texts.alloc, &mut environment, task);
+    perform_over(texts.alloc, &mut environment, &NoHub, task);
     environment.exports.text
 }
 

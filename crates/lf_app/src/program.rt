@@ -9,13 +9,19 @@ ghost use Rattle.lf_app.specs.Requests.{requests_of};
 
 use crate::tasks::perform_over;
 use lf_cli::{Help, Task, UsageFault, command_of, help_of};
+use lf_hub_host::HubHost;
 use lf_task_faults::{Fault, report_fault};
 use lf_task_serve::{Devices, Environment, Shows};
 use lf_task_usage::{write_help, write_usage};
 use std::alloc::{AllocError, Global};
 
 /// Does the task, and returns the exit status.
-fn run_task<D: Devices>(alloc: Global, environment: &mut Environment<D>, task: &Task<'_>) -> u8
+fn run_task<D: Devices, H: HubHost>(
+    alloc: Global,
+    environment: &mut Environment<D>,
+    host: &H,
+    task: &Task<'_>,
+) -> u8
     requires ready { IsReady D.Reader.has_failed D.Reader.reads D.Writer.has_failed
         environment.old.reader environment.old.writer }
     ensures run { let io = ⟦<Environment<D> as Shows>⟧.io in
@@ -26,7 +32,7 @@ fn run_task<D: Devices>(alloc: Global, environment: &mut Environment<D>, task: &
         → environment.new.progress ≡ environment.old.progress }
     ensures texts { environment.new.texts ≡ environment.old.texts }
 {
-    let exit = perform_over(alloc, environment, task);
+    let exit = perform_over(alloc, environment, host, task);
     exit.status
 }
 
@@ -100,7 +106,12 @@ fn answer_words<D: Devices>(
 }
 
 /// Does what the words request, and returns the exit status.
-fn run_words<D: Devices>(alloc: Global, environment: &mut Environment<D>, words: &[&str]) -> u8
+fn run_words<D: Devices, H: HubHost>(
+    alloc: Global,
+    environment: &mut Environment<D>,
+    host: &H,
+    words: &[&str],
+) -> u8
     requires ready { IsReady D.Reader.has_failed D.Reader.reads D.Writer.has_failed
         environment.old.reader environment.old.writer }
     ensures run { let io = ⟦<Environment<D> as Shows>⟧.io in
@@ -112,7 +123,7 @@ fn run_words<D: Devices>(alloc: Global, environment: &mut Environment<D>, words:
     ensures texts { environment.new.texts ≡ environment.old.texts }
 {
     match command_of(alloc, words) {
-        Ok(task) => run_task(alloc, environment, &task),
+        Ok(task) => run_task(alloc, environment, host, &task),
         Err(fault) => answer_words(alloc, environment, words, fault),
     }
 }
@@ -138,9 +149,10 @@ fn borrowed(alloc: Global, words: &[String]) -> Result<Vec<&str>, AllocError>
 ///
 /// Faults are reported on `faults`, also those of the words: then with the lines of the argument parser's message, and
 /// how to get help. Without a task nothing is read, and no file is written.
-pub fn run_program<D: Devices>(
+pub fn run_program<D: Devices, H: HubHost>(
     alloc: Global,
     environment: &mut Environment<D>,
+    host: &H,
     words: &Result<Vec<String>, UsageFault>,
 ) -> u8
     requires readable { D.Reader.has_failed environment.old.reader ≡ false }
@@ -156,7 +168,7 @@ pub fn run_program<D: Devices>(
 {
     match words {
         Ok(words) => match borrowed(alloc, words.as_slice()) {
-            Ok(texts) => run_words(alloc, environment, texts.as_slice()),
+            Ok(texts) => run_words(alloc, environment, host, texts.as_slice()),
             Err(_) => refuse_for_memory(environment),
         },
         Err(UsageFault::Usage) => refuse_words(alloc, environment, &[]),

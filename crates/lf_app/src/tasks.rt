@@ -21,7 +21,7 @@ ghost use Rattle.lf_app.specs.Requests.{AreOutputsOf, IsInputAt, IsInputOf, requ
 use lf_cli::{ImproveOptions, RepairFiles, RepairOptions, Slots, Task};
 use lf_def::DEMO_DEF;
 use lf_frame::Limits;
-use lf_hub_host::NoHub;
+use lf_hub_host::{HubHost, NoHub};
 use lf_io::{FromRead, FsOutputFiles, Sink, Source, ToWrite};
 use lf_lef::DEMO_LEF;
 use lf_task_designs::{FsInputFiles, limits_for, load_texts};
@@ -206,9 +206,10 @@ fn improvement_of(within: Option<u32>, options: ImproveOptions) -> Improve
 }
 
 /// Does the task on a design within these limits, and returns its exit status.
-fn outcome_within<'a, D: Devices>(
+fn outcome_within<'a, D: Devices, H: HubHost>(
     alloc: Global,
     environment: &mut Environment<D>,
+    host: &H,
     task: &'a Task<'_>,
     limits: Limits,
 ) -> Result<u8, Fault<'a>>
@@ -279,7 +280,7 @@ fn outcome_within<'a, D: Devices>(
             ..
         } => {
             let input = hub_at(inputs, teams.as_slice(), sockets, journal);
-            serve_hub_files(alloc, &environment.texts, &environment.hub, input)
+            serve_hub_files(alloc, &environment.texts, host, input)
         }
         Task::Check { committed, .. } => {
             check(
@@ -366,9 +367,10 @@ fn slots_of(task: &Task<'_>) -> Slots
 }
 
 /// Does the task, and returns its exit status.
-fn outcome<'a, D: Devices>(
+fn outcome<'a, D: Devices, H: HubHost>(
     alloc: Global,
     environment: &mut Environment<D>,
+    host: &H,
     task: &'a Task<'_>,
 ) -> Result<u8, Fault<'a>>
     requires ready { IsReady D.Reader.has_failed D.Reader.reads D.Writer.has_failed
@@ -402,7 +404,7 @@ fn outcome<'a, D: Devices>(
     ensures keeps { let io = ⟦<Environment<D> as Shows>⟧.io in KeepsStreams (io environment.old) (io environment.new) }
 {
     let limits = limits_for(slots_of(task));
-    outcome_within(alloc, environment, task, limits)
+    outcome_within(alloc, environment, host, task, limits)
 }
 
 /// Does the task and returns how it ended. The exit status is one of:
@@ -431,9 +433,10 @@ fn outcome<'a, D: Devices>(
 /// Only the demo and a replay read from the reader. If there is no fault, the exported text is
 /// written at the end to `exports`, then those of a repair or an improvement, and then the state. No
 /// other text is ever written there. Only the requested port of this machine is served.
-pub fn perform_over<D: Devices>(
+pub fn perform_over<D: Devices, H: HubHost>(
     alloc: Global,
     environment: &mut Environment<D>,
+    host: &H,
     task: &Task<'_>,
 ) -> TaskExit
     requires readable { D.Reader.has_failed environment.old.reader ≡ false }
@@ -474,7 +477,7 @@ pub fn perform_over<D: Devices>(
     ensures writer_held { D.Writer.holds environment.new.writer ≡ D.Writer.holds environment.old.writer }
     ensures faults_held { D.Faults.holds environment.new.faults ≡ D.Faults.holds environment.old.faults }
 {
-    match outcome(alloc, environment, task) {
+    match outcome(alloc, environment, host, task) {
         Ok(status) => exit_with(status),
         Err(fault) => report_fault(&mut environment.faults, &fault),
     }
@@ -526,9 +529,8 @@ fn perform_with<T: Files + Net + AllocGlobal, R: Source + Drop, W: Sink + Drop, 
         writer,
         faults,
         NoProgress,
-        NoHub,
     );
-    let exit = perform_over(rt.alloc(), &mut environment, task);
+    let exit = perform_over(rt.alloc(), &mut environment, &NoHub, task);
     let Environment {
         services,
         reader,

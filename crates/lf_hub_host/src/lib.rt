@@ -7,7 +7,7 @@
 //! No proof shows that the file and the sockets are those of the folders. What they do is described in
 //! `lf_journal_file` and `lf_hub_wire`.
 //!
-//! Used by `lf_task_hub`, `lf_task_serve`, `lf_app` and `lefence`.
+//! Used by `lf_task_hub` and `lf_app`.
 //!
 //! Modules, in reading order:
 //!

@@ -1,6 +1,6 @@
 //! The whole task of a hub.
 
-ghost use Rattle.std.specs.Prelude.{◌≡◌, ◌<◌, ◌^◌, IfErr, IfOk, IsTrue, OnOk, map};
+ghost use Rattle.std.specs.Prelude.{◌≡◌, [], IfErr, IfOk, IsTrue, map};
 ghost use Rattle.lf_journal.specs.Journals.{IsSettled};
 ghost use Rattle.lf_task_files.specs.Inputs.{path_of};
 ghost use Rattle.lf_task_hub.specs.Hubs.{IsHubFault, IsHubServed, IsOfHub, ServesAfterClosing, ServesFrom, ServesRestored};

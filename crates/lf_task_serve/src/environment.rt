@@ -4,7 +4,6 @@ ghost use Rattle.std.specs.Prelude.{◌≡◌};
 ghost use Rattle.lf_task_serve.specs.Surroundings.{Io};
 
 use crate::listener::PortListener;
-use lf_hub_host::HubHost;
 use lf_io::{OutputFiles, Sink, Source};
 use lf_task_designs::InputFiles;
 use lf_task_run::Progress;
@@ -26,8 +25,6 @@ pub trait Devices {
     type Faults: Sink;
     /// The receiver of the progress of a repair or an improvement.
     type Progress: Progress;
-    /// What a hub needs of the system.
-    type Hub: HubHost;
 }
 
 /// The devices of a task: its input and output files, its services, its reader and writers.
@@ -47,8 +44,6 @@ pub struct Environment<D: Devices> {
     pub faults: D::Faults,
     /// The receiver of the progress of a repair or an improvement.
     pub progress: D::Progress,
-    /// What a hub needs of the system.
-    pub hub: D::Hub,
 }
 
 /// What contracts see of the devices of a task, as one value.
@@ -76,11 +71,11 @@ impl<D: Devices> Shows for Environment<D> {
 
 /// Names the types of devices that are given one by one.
 #[derive(Drop)]
-pub struct DevicesOf<T, E, V, R, W, F, P, H> {
-    of: PhantomData<(T, E, V, R, W, F, P, H)>,
+pub struct DevicesOf<T, E, V, R, W, F, P> {
+    of: PhantomData<(T, E, V, R, W, F, P)>,
 }
 
-impl<T, E, V, R, W, F, P, H> Devices for DevicesOf<T, E, V, R, W, F, P, H>
+impl<T, E, V, R, W, F, P> Devices for DevicesOf<T, E, V, R, W, F, P>
 where
     T: InputFiles,
     E: OutputFiles,
@@ -89,7 +84,6 @@ where
     W: Sink,
     F: Sink,
     P: Progress,
-    H: HubHost,
 {
     type Texts = T;
 
@@ -104,11 +98,9 @@ where
     type Faults = F;
 
     type Progress = P;
-
-    type Hub = H;
 }
 
-impl<T, E, V, R, W, F, P, H> Environment<DevicesOf<T, E, V, R, W, F, P, H>>
+impl<T, E, V, R, W, F, P> Environment<DevicesOf<T, E, V, R, W, F, P>>
 where
     T: InputFiles,
     E: OutputFiles,
@@ -117,7 +109,6 @@ where
     W: Sink,
     F: Sink,
     P: Progress,
-    H: HubHost,
 {
     /// Makes the environment of these devices.
     pub fn new(
@@ -128,7 +119,6 @@ where
         writer: W,
         faults: F,
         progress: P,
-        hub: H,
     ) -> Self
         ensures { result ≡ record {
           texts = texts;
@@ -138,7 +128,6 @@ where
           writer = writer;
           faults = faults;
           progress = progress;
-          hub = hub;
         } }
     {
         Environment {
@@ -149,7 +138,6 @@ where
             writer,
             faults,
             progress,
-            hub,
         }
     }
 }

@@ -32,9 +32,8 @@ fn run_over<W: Write>(rt: &HostRuntime, words: &Words, writer: &mut W, faults: &
         ToWrite::new(writer),
         ToWrite::new(faults),
         NoProgress,
-        NoHub,
     );
-    run_program(rt.alloc(), &mut environment, words)
+    run_program(rt.alloc(), &mut environment, &NoHub, words)
 }
 
 /// Returns whether the run on these words has this status, output and messages.

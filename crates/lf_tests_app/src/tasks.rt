@@ -385,9 +385,8 @@ fn with_devices<V: PortListener, R: Read, W: Write, F: Write>(
         ToWrite::new(writer),
         ToWrite::new(faults),
         NoProgress,
-        NoHub,
     );
-    let exit = perform_over(rt.alloc(), &mut around, task);
+    let exit = perform_over(rt.alloc(), &mut around, &NoHub, task);
     End {
         exit,
         requested: around.exports.kept.requested,
