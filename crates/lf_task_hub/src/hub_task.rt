@@ -17,7 +17,7 @@ use lf_hub_serve::{Ending, Server, close_sessions, serve_hub, time_of};
 use lf_hub_wire::Wire;
 use lf_journal::Journal;
 use lf_legalize::IndexSeeker;
-use lf_task_designs::{InputFiles, OpenedDesign, open_design};
+use lf_task_designs::{InputFiles, load_files};
 use lf_task_faults::{Fault, HubFailure};
 use lf_task_files::open_floor;
 use lf_task_run::all_known;
@@ -151,14 +151,7 @@ pub fn serve_hub_files<'a, T: InputFiles, H: HubHost>(
         (path_of input.entry.design.state) fault × IsOfHub fault) }
 {
     let design = input.design;
-    let OpenedDesign { loaded, .. } = open_design(
-        alloc,
-        design.limits,
-        texts,
-        design.def,
-        design.lefs,
-        false,
-    )?;
+    let loaded = load_files(alloc, design.limits, texts, design.def, design.lefs)?;
     let floor = open_floor(alloc, texts, loaded, design.state)?;
     all_known(&floor, input.teams)?;
     let sockets = sockets_of(alloc, &floor, input.teams)?;
