@@ -5,7 +5,6 @@ No contract knows the bytes of sockets and files.
 
 from __future__ import annotations
 
-import os
 import random
 import signal
 import socket
@@ -234,7 +233,7 @@ class Restarting(Hubs):
             status, _, said = run(["replay", *DESIGN, *words, "--export", str(exported)], given)
             self.assertEqual((status, said), (0, ""))
             texts.append(exported.read_bytes())
-        self.assertEqual(*texts)
+        self.assertEqual(texts[0], texts[1])
         self.assertNotEqual(texts[0], DEF.read_bytes())
 
     def test_a_state_with_which_the_journal_begins(self) -> None:

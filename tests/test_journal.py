@@ -214,7 +214,8 @@ class Refused(Journals):
                     self.assertEqual(ran, (0, due, ""))
 
     def test_other_texts(self) -> None:
-        for texts in ([DEF, DEF], [LEF, DEF], [DEF], [DEF, LEF, LEF], []):
+        others: list[list[Path]] = [[DEF, DEF], [LEF, DEF], [DEF], [DEF, LEF, LEF], []]
+        for texts in others:
             with self.subTest(texts):
                 ran = self.replay(beginning(texts) + batches(RECORDS), "open A\n")
                 self.assert_refused(ran, "36 OtherTexts", HEADER)
