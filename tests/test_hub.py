@@ -228,9 +228,11 @@ class Restarting(Hubs):
             self.assertTrue(peer.ask(line).startswith("ok"), line)
         self.stop(hub)
         texts = []
-        for words, given in ((["--journal", str(self.segment())], ""), ([], "".join(f"{line}\n" for line in lines))):
+        given = "".join(f"{line}\n" for line in lines)
+        runs: list[tuple[list[str], str]] = [(["--journal", str(self.segment())], ""), ([], given)]
+        for words, text in runs:
             exported = self.folder / "new.def"
-            status, _, said = run(["replay", *DESIGN, *words, "--export", str(exported)], given)
+            status, _, said = run(["replay", *DESIGN, *words, "--export", str(exported)], text)
             self.assertEqual((status, said), (0, ""))
             texts.append(exported.read_bytes())
         self.assertEqual(texts[0], texts[1])
