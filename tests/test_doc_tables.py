@@ -16,7 +16,7 @@ from program import DEF, LEF, TESTS, run
 
 TOP = TESTS.parent
 CLI, PROTOCOL = ((TOP / "docs" / name).read_text(encoding="utf-8") for name in ("CLI.md", "PROTOCOL.md"))
-SUBCOMMANDS = ("check", "describe", "wirelength", "repair", "improve", "replay", "serve")
+SUBCOMMANDS = ("check", "describe", "wirelength", "repair", "improve", "replay", "serve", "hub")
 # The small design with two cells that overlap, a legal one, and a soft blockage.
 PLACED = (
     DEF.read_text()

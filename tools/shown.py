@@ -66,6 +66,8 @@ NOT_RUN = {
     r"\.\.\s*$|\[.*\]|\bNAME\b|\bTEAM\b|\bFILE\b|\bDEF\b|\bLEF\b|\bDIR\b|\bPATH\b|…": "it is a form, not a command",
     r"--port \d+ --connections \d{2,}": "it waits for that many connections",
     r"--at \d{4}-": "it names a time of another day",
+    r"^lefence hub ": "it serves until the operator stops it; tests/test_hub.py runs it",
+    r"--journal journal/segment": "the journal is that of `lefence hub`, which does not run here",
     r"^lefence-hub journal \d": "it is a line of a journal",
     r"\brestore saved\b|--takeover": "it needs another machine",
     r"--engine slurm": "it needs Slurm",
