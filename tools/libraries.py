@@ -49,7 +49,7 @@ GROUPS = {
         "spans, numbers, boxes, orientations, and the types of a frame",
     ),
     "texts": Group(
-        "lf_lex lf_names lf_lef lf_def lf_team_def lf_write lf_describe",
+        "lf_lex lf_names lf_lef lf_def lf_slice lf_team_def lf_write lf_describe",
         "tokens, names, the readers of LEF and DEF, and what is written of a design",
     ),
     "loading": Group(
@@ -77,7 +77,7 @@ GROUPS = {
         "the state of all teams. `lf_floor_model` defines outcomes and proves laws, and has no code. `lf_floor_verbs`"
         " changes the tables. `lf_floor` finds the team, saves and restores",
     ),
-    "state": Group("lf_state_text", "the text of a saved state, written and read"),
+    "state": Group("lf_state_*", "the text of a saved state, written and read, and several states gathered"),
     "journal": Group(
         "lf_journal lf_journal_*",
         "the journal of a hub. `_text` is its text, `lf_journal` puts batches on a disk, `_file` is a file as a disk,"
@@ -316,7 +316,7 @@ RULES = (
     ),
     Rule(
         "lf_task_usage lf_task_faults lf_task_designs lf_task_files lf_task_wires lf_task_journal lf_task_run"
-        " lf_task_serve lf_task_repair lf_task_improve lf_app lefence",
+        " lf_task_serve lf_task_repair lf_task_improve lf_task_gather lf_task_slice lf_app lefence",
         Kind.ORDERED,
         "",
         "What tasks share is below them. `lf_task_repair` and `lf_task_improve` are works that `lf_task_run` runs.",

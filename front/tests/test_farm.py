@@ -22,7 +22,6 @@ from lefence.journal.owner import this_process
 from lefence.farm.main import ranges_of
 from lefence.farm.runs import teams_of
 from lefence.farm.merge import merge
-from lefence.slice.main import slice_of
 
 # Two fences and the ground around them, with two cells each.
 TEAMS = ("A", "B", "-")
@@ -319,7 +318,7 @@ class Merges(FrontCase):
         design = Design(text)
         teams = teams_of(design)
         slices = [b"".join(pieces) for pieces in slices_of(design, [[team.encode()] for team in teams])]
-        self.assertEqual(slices, [slice_of(text, team) for team in teams])
+        self.assertEqual(slices, [b"".join(next(slices_of(Design(text), [[team.encode()]]))) for team in teams])
 
     def test_slices_are_merged_back_into_the_design(self) -> None:
         more = "COMPONENTS 3 ;\n- wall BUF + FIXED ( 0 6000 ) N ; # a\n - f0x INV ; - lid INV + COVER ( 0 0 ) N ;\n"
@@ -329,7 +328,8 @@ class Merges(FrontCase):
         paths = []
         for team in ("f0", "-"):
             paths.append(self.folder / f"slice{team}.def")
-            part = slice_of(whole.encode(), team).replace(b"- f0x INV ;", b"- f0x INV + PLACED ( 0 0 ) N ;")
+            part = b"".join(next(slices_of(Design(whole.encode()), [[team.encode()]])))
+            part = part.replace(b"- f0x INV ;", b"- f0x INV + PLACED ( 0 0 ) N ;")
             paths[-1].write_bytes(part.replace(b"- gc3 BUF ;", b"- gc3 BUF + PLACED ( 1 2 ) S ;"))
         merged = io.BytesIO()
         self.assertEqual(merge(self.design, paths, merged), 2 * CELLS + 1)

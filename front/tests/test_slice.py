@@ -2,7 +2,6 @@
 
 from __future__ import annotations
 
-import gzip
 import subprocess
 import unittest
 from collections.abc import Iterable
@@ -10,14 +9,14 @@ from concurrent.futures import ThreadPoolExecutor
 from pathlib import Path
 from unittest import mock
 
-from support import LEF, PROGRAM, TEAMS, Hub, HubCase, Script, converse, design_text
+from support import PROGRAM, TEAMS, Hub, HubCase, Script, converse, design_text
 
 import lefence
 from lefence.base.design import Design
-from lefence.base.faults import Fault
+from lefence.base.program import Program
+from lefence.base.slices import slices_of
 from lefence.journal.frames import Record
 from lefence.journal.journal import Journal, texts_in
-from lefence.slice.main import refuse_difference, slice_of
 
 # Parts of a real design: sections that a slice drops, comments, quotes, FIXED and COVER components.
 SECTIONS = """PINS 1 ;
@@ -72,23 +71,15 @@ class Slices(HubCase):
             "lefence-slice", self.design, self.lef, "--team", team, "--output", target, "--program", self.program
         )
         self.assertEqual((done.returncode, done.stdout), (0, b""), done.stderr)
-        self.assertNotIn(b"not checked", done.stderr)
         return target
 
-    def test_a_slice_has_only_the_frame_and_the_cells_of_the_team(self) -> None:
-        text = slice_of(self.design.read_bytes(), "f1")
-        design = Design(text)
-        self.assertEqual(design.fences, [f"f{team}".encode() for team in range(TEAMS)])
-        self.assertEqual(design.cells_of(b"f1"), [*(b"f1c%d" % number for number in range(10)), b'f1"x', b"late\\*"])
-        self.assertEqual([design.cells_of(team) for team in (b"f0", b"f2", b"-")], [[]] * 3)
-        fixed = [each.name for each in design.entries(b"COMPONENTS") if design.team_of(each) is None]
-        self.assertEqual(fixed, [b"f2fixed", b"gcover"])
-        self.assertEqual([each.name for each in design.entries(b"GROUPS")], [b"g1", b"more"])
-        for kept in (b"ROW r3 ", b"- f7 (", b"- PLACEMENT + SOFT RECT ( 9000 0 ) ( 9400 2000 ) ;"):
-            self.assertIn(kept, text)
-        for dropped in (b"NETS", b"PINS", b"BEGINEXT", b"gc1"):
-            self.assertNotIn(dropped, text)
-        self.assertEqual(slice_of(text, "f1"), text)
+    def test_the_program_cuts_slices_as_a_hub_and_a_farm_do(self) -> None:
+        design = Design(self.design.read_bytes())
+        for team in ("f1", "f2", "f7", "-"):
+            expected = b"".join(next(slices_of(design, [[team.encode()]])))
+            self.assertEqual(self.slice(team).read_bytes(), expected)
+            done = self.tool("lefence-slice", self.design, self.lef, "--team", team, "--program", self.program)
+            self.assertEqual((done.returncode, done.stdout), (0, expected), done.stderr)
 
     def test_commands_are_answered_as_on_the_whole_design(self) -> None:
         for team in (0, 1, 2, TEAMS):
@@ -108,73 +99,23 @@ class Slices(HubCase):
         self.assertEqual(found[2], self.direct(texts[2], design=sliced))
 
     def test_an_unknown_team_is_refused(self) -> None:
-        for team in ("Z", "\udcff", ""):
-            done = self.tool("lefence-slice", self.design, "--team", team)
+        for team in ("Z", ""):
+            done = self.tool("lefence-slice", self.design, self.lef, "--team", team, "--program", self.program)
             self.assertEqual((done.returncode, done.stdout), (1, b""))
-            self.assertRegex(done.stderr, rb"no team: .*; the teams are f0, f1, .*, -\n")
-        done = self.tool("lefence-slice", self.design, "--team", "f1")
-        self.assertEqual((done.returncode, done.stdout), (0, slice_of(self.design.read_bytes(), "f1")))
-        self.assertIn(b"not checked", done.stderr)
-
-    def test_a_file_that_is_not_def_is_reported(self) -> None:
-        for other in (LEF.encode(), gzip.compress(LEF.encode())):
-            self.design.write_bytes(other)
-            done = self.tool("lefence-slice", self.design, "--team", "f0")
-            self.assertEqual(
-                (done.returncode, done.stderr.decode()),
-                (1, f"lefence-slice: {self.design} has no DESIGN: it is not a DEF file\n"),
-            )
+            self.assertIn(f"team {team} is not in the design".encode(), done.stderr)
 
     def test_a_truncated_design_is_refused(self) -> None:
         self.design.write_bytes(self.design.read_bytes().partition(b"- f3c0")[0])
-        done = self.tool("lefence-slice", "t.def", "--team", "f0", "-o", "f0.def")
-        expected = b"lefence-slice: t.def ends without END DESIGN: it is truncated\n"
-        self.assertEqual((done.returncode, done.stderr, (self.folder / "f0.def").exists()), (1, expected, False))
-
-    def test_a_slice_that_the_program_reads_differently_is_refused(self) -> None:
-        whole = self.design.read_bytes()
-        part = slice_of(whole, "f1")
-        refuse_difference(PROGRAM, self.design, part, [self.lef], "f1")
-        for other, output in (
-            (whole, "reads 12 cells of team f1 in the whole design, but 92 in the slice"),
-            (slice_of(whole, "f2"), "the first difference is f1c0 in the whole design and f2c0 in the slice"),
-            (
-                part.replace(b"- f1c9 BUF", b"- f1c9 INV"),
-                "the first difference is f1c9 in the whole design and f1c9 in the slice",
-            ),
-            (part.replace(b"- late\\* INV ", b"- late\\* INV + FIXED ( 8000 0 ) N "), "another frame"),
-            (part.replace(b"- f1c7 ", b"- f1c8 "), "the program refuses the slice, which is not written: "),
-            (slice_of(whole, "-"), "reads 12 cells of team f1 in the whole design, but 10 in the slice"),
-        ):
-            self.assertNotEqual(other, part)
-            with self.assertRaises(Fault) as caught:
-                refuse_difference(PROGRAM, self.design, other, [self.lef], "f1")
-            self.assertEqual((caught.exception.status, output in str(caught.exception)), (1, True), caught.exception)
-
-    def test_a_slice_that_differs_is_not_written(self) -> None:
-        target = self.folder / "f1.def"
-        for edit in ("s/f1c3/f1c33/", "/f1c3/d", "s/name...f2fixed/&d/"):
-            program = self.describing(
-                f"""[ "$2" = "{self.design}" ] || exec '{PROGRAM}' "$@"\n'{PROGRAM}' "$@" | sed '{edit}'"""
-            )
-            outputs: tuple[tuple[str | Path, ...], ...] = ((), ("--output", target))
-            for words in outputs:
-                done = self.tool("lefence-slice", self.design, self.lef, "--team", "f1", "--program", program, *words)
-                self.assertEqual((done.returncode, done.stdout, target.exists()), (1, b"", False), done.stderr)
-                self.assertIn(b"the program reads", done.stderr)
+        words = ("t.def", self.lef, "--team", "f0", "-o", "f0.def", "--program", self.program)
+        done = self.tool("lefence-slice", *words)
+        self.assertEqual((done.returncode, (self.folder / "f0.def").exists()), (1, False))
+        self.assertIn(b"2 UnexpectedEnd", done.stderr)
 
     def test_the_design_itself_is_not_overwritten(self) -> None:
         before = self.design.read_bytes()
-        self.assertEqual(self.tool("lefence-slice", self.design, "--team", "f1", "--output", self.design).returncode, 2)
+        words = (self.design, self.lef, "--team", "f1", "--output", self.design, "--program", self.program)
+        self.assertEqual(self.tool("lefence-slice", *words).returncode, 2)
         self.assertEqual(self.design.read_bytes(), before)
-
-    def test_any_bytes_are_sliced_without_a_traceback(self) -> None:
-        whole = self.design.read_bytes()
-        texts = [b"", b'"', b"#", b"COMPONENTS", b"REGIONS 1 ; - - ; END REGIONS", b"GROUPS x - + REGION ; END GROUPS"]
-        texts.append(bytes(range(256)) * 9)
-        texts += [whole[: self.rng.randrange(len(whole))] for _ in range(100)]
-        for text in texts:
-            self.assertTrue(slice_of(text, "-").endswith(b"\n"))
 
 
 class Pushes(HubCase):
@@ -189,7 +130,7 @@ class Pushes(HubCase):
         """Does random work on a hub of a team's slice; returns its journal. A second call continues it."""
         name = f"f{team}"
         sliced = self.folder / f"{name}.def"
-        sliced.write_bytes(slice_of(self.design.read_bytes(), name))
+        sliced.write_bytes(Program(PROGRAM, [self.design, self.lef]).slice(name))
         # (on a busy machine a state would take the place of the first changes)
         options = ("--tail-bytes", "0", *more)
         words = self.words(*options, sockets=f"s{name}", journal=f"j{name}", design=sliced)
@@ -205,7 +146,7 @@ class Pushes(HubCase):
     def repair_away(self, team: str) -> tuple[Path, Path]:
         """Repairs a team's slice; returns the lines and the exported slice."""
         sliced, lines, exported = (self.folder / f"{team}.{name}" for name in ("def", "lines", "new.def"))
-        sliced.write_bytes(slice_of(self.design.read_bytes(), team))
+        sliced.write_bytes(Program(PROGRAM, [self.design, self.lef]).slice(team))
         words = [
             "repair",
             str(sliced),

@@ -6,7 +6,6 @@ import io
 import shutil
 import subprocess
 import sys
-import tempfile
 import unittest
 import venv
 from collections.abc import Callable
@@ -42,7 +41,6 @@ class Tools(FrontCase):
                 self.assertNotIn(b"Traceback", done.stderr)
 
     def test_an_unneeded_lef_file_is_not_required(self) -> None:
-        self.assertIn(b"the following arguments are required: DEF\n", self.tool("lefence-slice", "--team", "f0").stderr)
         self.assertIn(
             b"usage: lefence-farm [OPTION ..] WORK [DEF LEF ..] [-- COMMAND]\n",
             self.tool("lefence-farm", "--help").stdout,
@@ -54,8 +52,8 @@ class Tools(FrontCase):
             ("lefence-hub", (b"\xff.def", "t.lef", *sockets)),
             ("lefence-hub", ("t.def", "t.lef", *sockets, "--journal", "nowhere/j")),
             ("lefence-hub", ("t.def", "t.lef", *sockets, "--sockets", "nowhere/s")),
-            ("lefence-slice", (b"\xff.def", "--team", "f0")),
-            ("lefence-slice", ("t.def", "--team", "f0", "--output", "nowhere/x")),
+            ("lefence-slice", (b"\xff.def", "t.lef", "--team", "f0", "--program", PROGRAM)),
+            ("lefence-slice", ("t.def", "t.lef", "--team", "f0", "--output", "nowhere/x", "--program", PROGRAM)),
             ("lefence-slice", ("t.def", "nowhere.lef", "--team", "f0", "--program", PROGRAM)),
             ("lefence-push", (b"\xff", "s")),
             ("lefence-journal", ("check", b"\xff")),
@@ -110,7 +108,7 @@ class Tools(FrontCase):
     def test_output_that_nobody_reads_ends_with_3(self) -> None:
         text = "".join(f"- x{at} INV ;\n" for at in range(20000))
         self.design.write_text(self.design.read_text().replace("END COMPONENTS", text + "END COMPONENTS"))
-        words = [*tool_words("lefence-slice"), str(self.design), "--team", "-"]
+        words = [*tool_words("lefence-slice"), str(self.design), str(self.lef), "--team", "-", "--program", PROGRAM]
         with subprocess.Popen(words, stdout=subprocess.PIPE, stderr=subprocess.PIPE) as process:
             assert process.stdout and process.stderr
             process.stdout.close()
@@ -146,11 +144,9 @@ class Faults(unittest.TestCase):
             raise Fault(1, "a\x1b[2Jb\udcff\u202e\x9b é")
 
         self.assertEqual(self.output_of(fail), (1, "x: a\\x1b[2Jb\\udcff\\u202e\\x9b é\n"))
-        with tempfile.NamedTemporaryFile() as file:
-            file.write(b"DESIGN t ;\nEND DESIGN\n")
-            file.flush()
-            done = subprocess.run([*tool_words("lefence-slice"), file.name, "--team", "\x1b]0;"], capture_output=True)
-        self.assertEqual((done.returncode, b"\x1b" in done.stderr, b"\\x1b]0;" in done.stderr), (1, False, True))
+        words = [*tool_words("lefence-slice"), "x.def", "\x1b]0;", "--team", "A", "--program", PROGRAM]
+        done = subprocess.run(words, capture_output=True)
+        self.assertEqual((done.returncode, b"\x1b" in done.stderr, b"\\x1b]0;" in done.stderr), (3, False, True))
 
 
 class Package(FrontCase):

@@ -1,14 +1,15 @@
 -- Tasks over a loaded design.
-use Rattle.std.proofs.Common.{◌≡◌, ◌⊎◌, ◌∙◌, arith, ap, inl, inr, map, subst, sym, Bool, List, Option, ℕ}
-use Rattle.std.specs.Prelude.{IfErr, IfOk, Result}
+use Rattle.std.proofs.Common.{Ok, true, ◌≡◌, ◌⊎◌, ◌∙◌, arith, ap, inl, inr, map, subst, sym, Bool, List, Option, ℕ}
+use Rattle.std.specs.Prelude.{Err, IfErr, IfOk, OnErr, OnOk, Result}
 use Rattle.std.proofs.lemmas.Result.{IfErr-weaker}
 use Rattle.lf_cli.specs.declared.parse.Task.{Task}
-use Rattle.lf_cli.specs.declared.parse.Task.TheVariants.{Demo, Replay, Serve, Check, Describe, Improve, Repair, Wirelength}
-use Rattle.lf_cli.specs.Command.{Job, ReadsNone, RepairPaths, repair_paths, as_job, check, demo, describe, improve, repair, replay, serve, wirelength}
+use Rattle.lf_cli.specs.declared.parse.Task.TheVariants.{Demo, Replay, Serve, Check, Describe, Gather, Improve, Repair, Slice, Wirelength}
+use Rattle.lf_cli.specs.Command.{Job, ReadsNone, RepairPaths, repair_paths, as_job, check, demo, describe, gather, improve, repair, replay, serve, slice, wirelength}
 use Rattle.lf_task_faults.specs.declared.faults.Fault.{Fault}
 use Rattle.lf_task_faults.specs.declared.faults.Fault.TheVariants.{Refused, File, RefusedState, RefusedJournal, NoTeam, RefusedTeam, TeamDiffers, SliceDiffers, ReadFault, WriteFault, TooManyLines, OutOfMemory, Output, Bind, Accept, NotWritten, SetupOutOfMemory, OutputOutOfMemory}
 use Rattle.lf_task_designs.specs.Designs.{ReadsFile}
-use Rattle.lf_task_faults.specs.Faults.{status_of}
+use Rattle.lf_task_faults.specs.Faults.{BlamesDevices, status_of}
+use Rattle.lf_task_files.proofs.WorkSteps.{blames_as}
 use Rattle.lf_app.specs.Exits.{IsJobOutcome}
 use Rattle.lf_task_serve.specs.Exits.{Streams}
 use Rattle.lf_task_serve.specs.Surroundings.{Io, IsSound}
@@ -61,12 +62,14 @@ succeeds gives (describe def lefs state number) io status (limits, slots, is) = 
 succeeds gives (wirelength def lefs state number) io status (limits, slots, is) = inl is.3
 succeeds gives (repair def lefs state number teams options files) io status (limits, slots, is) = is.done.committed_checked.done
 succeeds gives (improve def lefs number teams within options files) io status (limits, slots, is) = is.done.committed_checked.done
+succeeds gives (slice def lefs team output) io status (limits, slots, is) = inl is.1
+succeeds gives (gather def lefs states number save export) io status (limits, slots, is) = is.committed_checked.done
 
 -- An outcome with this status is one with an equal status.
 pub ends_with_status : (gives : ReadsFile) (job : Job) (io : Streams) (given status : ℕ) → status ≡ given → IsJobOutcome gives job io given → IsJobOutcome gives job io status
 ends_with_status gives job io given status same is = subst (λ (n : ℕ). IsJobOutcome gives job io n) (sym same) is
 
--- Only a check, a description, a repair or an improvement has status 4.
+-- Only a check, a description, a repair, an improvement or a gathering has status 4.
 pub checked : (gives : ReadsFile) (task : Task) (io : Streams) (status : ℕ) → IsJobOutcome gives (as_job task) io status → status ≡ 4 → ReadsNone task
 checked gives Demo io status (limits, slots, is) four = let zero : status ≡ 0 = is.3 in absurd (omega (arith, zero, four))
 checked gives (Replay def lefs state number journal lines save export) io status (limits, slots, is) four =
@@ -78,6 +81,8 @@ checked gives (Describe def lefs state number) io status is four = tt
 checked gives (Wirelength def lefs state number) io status is four = tt
 checked gives (Repair def lefs state number teams options files) io status is four = tt
 checked gives (Improve def lefs number teams within options files) io status is four = tt
+checked gives (Slice def lefs team output) io status is four = tt
+checked gives (Gather def lefs states number save export) io status is four = tt
 
 -- A task that only writes touches nothing if it writes nothing.
 pub stops_untouched : (r : Result ℕ Fault) (nothing work also more : Fault → Type 0) (same untouched : Type 0)
@@ -123,3 +128,23 @@ not_done_at work gives a b same r before after old new kept write_before write_n
 pub sound_by : (old new : Io) → new.put_failed ≡ old.put_failed → new.service_failed ≡ old.service_failed → new.read_failed ≡ old.read_failed
     → new.write_failed ≡ old.write_failed → IsSound old new
 sound_by old new puts services reads writes = record { exports = puts; services = services; reader = reads; writer = writes }
+
+-- ---- tasks that use only files
+
+-- If a task has only files, any claim holds of a fault of another device.
+pub files_blame : (fault : Fault) (kept reader writer service sound : Type 0) (before now : Bool)
+    → BlamesDevices fault (Unit {0}) ⊥ ⊥ (now ≡ true) ⊥ (now ≡ before) → kept → (now ≡ before → sound)
+    → BlamesDevices fault kept reader writer (now ≡ true) service sound
+files_blame fault kept reader writer service sound before now blames keeps sounds =
+    blames_as fault _ _ _ _ _ _ _ _ _ _ _ _ blames (λ _. keeps) (λ none. absurd none) (λ none. absurd none) (λ is. is) (λ none. absurd none) sounds
+
+-- A task that is done has this status.
+pub ok_with : (r : Result ℕ Fault) (Done : Type 0) (IsStatus : ℕ → Type 0) → OnOk r Done → IfOk r IsStatus → IfOk r (λ status. Done × IsStatus status)
+ok_with (Ok status) Done IsStatus done is = (done, is)
+ok_with (Err fault) Done IsStatus done is = tt
+
+-- A task that fails has written no file.
+pub unput_fails : (r : Result ℕ Fault) (why also more : Fault → Type 0) (unput : Type 0) → IfErr r (λ fault. why fault × also fault) → OnErr r unput
+    → ((fault : Fault) → also fault → more fault) → IfErr r (λ fault. (why fault × unput) × more fault)
+unput_fails (Ok status) why also more unput is same gives = tt
+unput_fails (Err fault) why also more unput is same gives = ((is.0, same), gives fault is.1)

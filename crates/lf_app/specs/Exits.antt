@@ -6,7 +6,7 @@ use Rattle.lf_lef.specs.declared.built_in.TheConstants.{DEMO_LEF}
 use Rattle.lf_def.specs.declared.built_in.TheConstants.{DEMO_DEF}
 use Rattle.lf_floor_model.specs.States.{FloorState}
 use Rattle.lf_floor_model.specs.Designs.{initial_floor}
-use Rattle.lf_cli.specs.Command.{Job, demo, replay, serve, check, describe, wirelength, repair, improve}
+use Rattle.lf_cli.specs.Command.{Job, demo, replay, serve, check, describe, wirelength, repair, improve, slice, gather}
 use Rattle.lf_task_faults.specs.declared.faults.Fault.{Fault}
 use Rattle.lf_task_faults.specs.declared.faults.TaskExit.{TaskExit}
 use Rattle.lf_task_designs.specs.Checks.{IsNotReported}
@@ -20,6 +20,8 @@ use Rattle.lf_task_wires.specs.Wirelengths.{IsMeasured, IsNotMeasured}
 use Rattle.lf_task_run.specs.Tasks.{IsTaskDone, IsTaskNotDone}
 use Rattle.lf_task_repair.specs.Repairs.{repair_means}
 use Rattle.lf_task_improve.specs.Works.{improve_means}
+use Rattle.lf_task_slice.specs.Slices.{IsSliceFault, IsSliceWritten}
+use Rattle.lf_task_gather.specs.Exits.{IsGatherDone, IsGatherFault}
 use Rattle.lf_app.specs.Requests.{requests_of, request_at}
 
 -- A task ends with a fault of this kind.
@@ -53,6 +55,10 @@ IsOutcomeWithin limits gives (repair def lefs state slots teams options files) i
 IsOutcomeWithin limits gives (improve def lefs slots teams within options files) io status =
     IsTaskDone (improve_means within) gives (request_at limits def lefs None teams files) io.before io.after
     io.old_puts io.new_puts status
+IsOutcomeWithin limits gives (slice def lefs team output) io status =
+    IsSliceWritten limits gives def lefs team output io.old_puts io.new_puts × (status ≡ 0)
+IsOutcomeWithin limits gives (gather def lefs states slots save export) io status =
+    IsGatherDone limits gives def lefs states save export io.old_puts io.new_puts status
 
 -- The outcome of a job that succeeds, with this status.
 abbrev pub IsJobOutcome : ReadsFile → Job → Streams → ℕ → Type 0
@@ -62,8 +68,8 @@ IsJobOutcome gives job io status = (limits : Limits) × AreWithSlots (requests_o
 -- ---- faults
 
 -- Why a job on a design within these limits fails: there is no design, or no floor in the requested
--- state; or the lines, the service, a written file, the report, the description, the repair or the
--- improvement fails.
+-- state; or the lines, the service, a written file, the report, the description, the repair, the
+-- improvement, the slice or the gathering fails.
 abbrev pub IsJobFaultWithin : Limits → ReadsFile → Job → Fault → Streams → Type 0
 IsJobFaultWithin limits gives demo fault io =
     IsJobStop (IsTextFault limits DEMO_DEF.now DEMO_LEF.now) (IsTextDesign limits DEMO_DEF.now DEMO_LEF.now)
@@ -90,6 +96,10 @@ IsJobFaultWithin limits gives (repair def lefs state slots teams options files) 
 IsJobFaultWithin limits gives (improve def lefs slots teams within options files) fault io =
     IsTaskNotDone (improve_means within) gives (request_at limits def lefs None teams files) io.before io.after
     io.old_puts io.new_puts fault
+IsJobFaultWithin limits gives (slice def lefs team output) fault io =
+    IsSliceFault limits gives def lefs team output fault × (io.new_puts ≡ io.old_puts)
+IsJobFaultWithin limits gives (gather def lefs states slots save export) fault io =
+    IsGatherFault limits gives def lefs states save export io.old_puts io.new_puts fault
 
 -- Why a job fails.
 abbrev pub IsJobFault : ReadsFile → Job → Fault → Streams → Type 0

@@ -1,7 +1,7 @@
 -- What jobs request of files and limits.
-use Rattle.std.specs.Prelude.{◌≡◌, Bool, true, false, List, [], None, Option, map, ℕ}
+use Rattle.std.specs.Prelude.{◌≡◌, Bool, true, false, List, [], None, Option, Some, map, ℕ}
 use Rattle.lf_floorplan.specs.declared.limits.Limits.{Limits}
-use Rattle.lf_cli.specs.Command.{Job, RepairPaths, check, demo, describe, improve, repair, replay, serve, wirelength}
+use Rattle.lf_cli.specs.Command.{Job, RepairPaths, check, demo, describe, gather, improve, repair, replay, serve, slice, wirelength}
 use Rattle.lf_task_files.specs.declared.inputs.DesignInput.{DesignInput}
 use Rattle.lf_task_files.specs.declared.outputs.OutputPaths.{OutputPaths}
 use Rattle.lf_task_files.specs.Inputs.{path_of}
@@ -52,6 +52,8 @@ requests_of (repair def lefs state slots teams options files) =
     record (on_files def lefs state slots files) { shows_progress = true }
 requests_of (improve def lefs slots teams within options files) =
     record (on_files def lefs None slots files) { shows_progress = true }
+requests_of (slice def lefs team output) = on_files def lefs None 8 (save_and_export None (Some output))
+requests_of (gather def lefs states slots save export) = on_files def lefs None slots (save_and_export save export)
 
 -- ---- as functions receive it
 
@@ -76,6 +78,7 @@ pub record AreOutputsAt (save export : Option (List ℕ)) (outputs : OutputPaths
 abbrev pub AreOutputsOf : Job → OutputPaths → Type 0
 AreOutputsOf (replay def lefs state slots journal lines save export) outputs = AreOutputsAt save export outputs
 AreOutputsOf (serve def lefs state slots port connections save export) outputs = AreOutputsAt save export outputs
+AreOutputsOf (gather def lefs states slots save export) outputs = AreOutputsAt save export outputs
 AreOutputsOf job outputs = Unit {0}
 
 -- What a repair or an improvement requests.

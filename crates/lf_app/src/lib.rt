@@ -24,9 +24,11 @@
 //! - wirelength has written the lengths of the nets, with the same places
 //! - repair has sent commands to the floor, which accepted each of them, and has written a report
 //! - improve has done the same, and the nets are not longer than before
+//! - slice has written the DEF text of a team: its design is alike to the whole one for the team
+//! - gather has gathered the teams of several states on the floor
 //!
-//! Only check, describe, repair and improve return 4, which means that the design is not fully
-//! legal; for repair and improve it is the committed design at the end. With `--export` the exported
+//! Only check, describe, repair, improve and gather return 4, which means that the design is not
+//! fully legal; for repair, improve and gather it is the committed design at the end. With `--export` the exported
 //! text was written to the path: exactly the DEF text with the floor's committed places at the end.
 //! Next come the same text with the working places (`--export-working` of repair), the lines of the
 //! commands of repair or improve (`--lines`), and the state (`--save`). No other file is ever
@@ -37,8 +39,8 @@
 //!
 //! 1. the LEF files and their texts, then the DEF file and its text
 //! 2. loading
-//! 3. the saved state, and then the pins and nets that are measured, or to which cells go near
-//! 4. a team to repair or to improve that does not exist
+//! 3. the saved states, and then the pins and nets that are measured, or to which cells go near
+//! 4. a team that does not exist, or that two states to gather have differently
 //! 5. the paths of the files to write
 //! 6. the port
 //! 7. the end of the lines, the service, the repair or the improvement

@@ -26,12 +26,14 @@ use lf_lef::DEMO_LEF;
 use lf_task_designs::{FsInputFiles, limits_for, load_texts};
 use lf_task_faults::{Fault, TaskExit, exit_with, report_fault};
 use lf_task_files::{DesignInput, OutputPaths, check, describe_files};
+use lf_task_gather::gather_files;
 use lf_task_improve::Improve;
 use lf_task_repair::Repair;
 use lf_task_run::{Job, NoProgress, run_task};
 use lf_task_serve::{
     Devices, Environment, LineSource, NetListener, Shows, serve_files, serve_loaded,
 };
+use lf_task_slice::slice_files;
 use lf_task_wires::wirelength;
 use std::alloc::Global;
 use std::io::{Read, Write};
@@ -128,6 +130,8 @@ fn input_of<'a>(task: &'a Task<'_>, limits: Limits) -> DesignInput<'a>
             ..
         } => input_at(*def, lefs.as_slice(), *state, limits),
         Task::Improve { def, lefs, .. } => input_at(*def, lefs.as_slice(), None, limits),
+        Task::Slice { def, lefs, .. } => input_at(*def, lefs.as_slice(), None, limits),
+        Task::Gather { def, lefs, .. } => input_at(*def, lefs.as_slice(), None, limits),
     }
 }
 
@@ -141,6 +145,10 @@ fn outputs_of<'a>(task: &'a Task<'_>) -> OutputPaths<'a>
             save: *save,
         },
         Task::Serve { save, export, .. } => OutputPaths {
+            export: *export,
+            save: *save,
+        },
+        Task::Gather { save, export, .. } => OutputPaths {
             export: *export,
             save: *save,
         },
@@ -303,6 +311,22 @@ fn outcome_within<'a, D: Devices>(
                 &work,
             )
         }
+        Task::Slice { team, output, .. } => slice_files(
+            alloc,
+            &environment.texts,
+            inputs,
+            *team,
+            *output,
+            &mut environment.exports,
+        ),
+        Task::Gather { states, .. } => gather_files(
+            alloc,
+            &environment.texts,
+            inputs,
+            states.as_slice(),
+            outputs_of(task),
+            &mut environment.exports,
+        ),
     }
 }
 
@@ -319,6 +343,8 @@ fn slots_of(task: &Task<'_>) -> Slots
         Task::Demo => Slots::standard(),
         Task::Repair { slots, .. } => *slots,
         Task::Improve { slots, .. } => *slots,
+        Task::Slice { .. } => Slots::standard(),
+        Task::Gather { slots, .. } => *slots,
     }
 }
 

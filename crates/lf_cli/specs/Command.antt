@@ -20,7 +20,7 @@ use Rattle.lf_cli.specs.declared.parse.RepairOptions.{RepairOptions}
 use Rattle.lf_cli.specs.declared.parse.Task.{Task}
 use Rattle.lf_cli.specs.declared.parse.Task.TheVariants as task
 use Rattle.lf_cli.specs.declared.subcommand.Subcommand.{Subcommand}
-use Rattle.lf_cli.specs.declared.subcommand.Subcommand.TheVariants.{Demo, Check, Describe, Wirelength, Replay, Serve, Repair, Improve}
+use Rattle.lf_cli.specs.declared.subcommand.Subcommand.TheVariants.{Demo, Check, Describe, Wirelength, Replay, Serve, Repair, Improve, Slice, Gather}
 
 -- ---- the subcommands
 
@@ -34,10 +34,13 @@ subcommand_word Replay = codes "replay"
 subcommand_word Serve = codes "serve"
 subcommand_word Repair = codes "repair"
 subcommand_word Improve = codes "improve"
+subcommand_word Slice = codes "slice"
+subcommand_word Gather = codes "gather"
 
 -- All subcommands, in the order in which they are listed.
 abbrev pub subcommands : List Subcommand
-subcommands = Demo ∷ Check ∷ Describe ∷ Wirelength ∷ Replay ∷ Serve ∷ Repair ∷ Improve ∷ []
+subcommands =
+    Demo ∷ Check ∷ Describe ∷ Wirelength ∷ Replay ∷ Serve ∷ Repair ∷ Improve ∷ Slice ∷ Gather ∷ []
 
 -- The subcommand of this word.
 abbrev pub subcommand_named : Text → Option Subcommand
@@ -109,6 +112,10 @@ line_of Repair = design_line (subcommand_word Repair)
     ∷ flag_rule (codes "near-nets")
     ∷ text_rule (codes "state") ∷ slots_rule ∷ text_rule (codes "save") ∷ text_rule (codes "export")
     ∷ text_rule (codes "export-working") ∷ text_rule (codes "lines") ∷ [])
+line_of Slice = design_line (subcommand_word Slice)
+    (needed (text_rule (codes "team")) ∷ needed (text_rule (codes "output")) ∷ [])
+line_of Gather = design_line (subcommand_word Gather)
+    (needed (repeated_rule (codes "state")) ∷ slots_rule ∷ text_rule (codes "save") ∷ text_rule (codes "export") ∷ [])
 line_of Improve = design_line (subcommand_word Improve)
     (repeated_rule (codes "team") ∷ number_rule (codes "within") 65535 ∷ number_rule (codes "rounds") 100
     ∷ effort_rule ∷ number_rule (codes "density") 100
@@ -152,6 +159,10 @@ pub data Job : Type 0 where
   -- No state. The teams, as of a repair; the greatest displacement in rows; how places are searched
   -- for; the paths of the files to write.
   improve : Text → List Text → ℕ → List Text → Option ℕ → ImproveOptions → RepairPaths → Job
+  -- No state, and 8 session slots. The team, and the path of the file to write.
+  slice : Text → List Text → Text → Text → Job
+  -- Several states. The paths of the state and of the DEF file to write.
+  gather : Text → List Text → List Text → ℕ → Option Text → Option Text → Job
 
 -- ---- the files of a job
 
@@ -215,12 +226,26 @@ repair_clash def lefs state files =
     else if export_clash lefs state files then Some (codes "export")
     else if working_clash def lefs state files then Some (codes "export-working") else None
 
+-- The option whose file would replace one that a slice is made of.
+abbrev pub slice_clash : Text → List Text → Text → Option Text
+slice_clash def lefs output =
+    if is_same (Some output) (Some def) || is_among (Some output) lefs then Some (codes "output") else None
+
+-- The option whose file would replace one that is read when states are gathered, or the other file
+-- that is written. The exported text may replace the DEF file, and the gathered state a state.
+abbrev pub gather_clash : Text → List Text → List Text → Option Text → Option Text → Option Text
+gather_clash def lefs states save export =
+    if is_same save (Some def) || is_among save lefs then Some (codes "save")
+    else if is_among export states || (is_same export save || is_among export lefs) then Some (codes "export") else None
+
 -- The option of a job whose file would replace another of its files.
 abbrev pub clash_of : Job → Option Text
 clash_of (replay def lefs state slots journal lines save export) = replay_clash def lefs state journal save export
 clash_of (serve def lefs state slots port connections save export) = clash_among def lefs state save export
 clash_of (repair def lefs state slots teams options files) = repair_clash def lefs state files
 clash_of (improve def lefs slots teams within options files) = repair_clash def lefs None files
+clash_of (slice def lefs team output) = slice_clash def lefs output
+clash_of (gather def lefs states slots save export) = gather_clash def lefs states save export
 clash_of _ = None
 
 -- ---- numbers
@@ -381,6 +406,13 @@ job_on Improve def lefs rows =
     (slots_among rows))
     (improve_options_among rows))
     (within_requested (first_of (codes "within") rows))
+job_on Slice def lefs rows =
+    option_and_then (λ team. option_map (λ output. slice def lefs team output) (first_of (codes "output") rows))
+    (first_of (codes "team") rows)
+job_on Gather def lefs rows =
+    option_map (λ slots. gather def lefs (values_of (codes "state") rows) slots (first_of (codes "save") rows)
+    (first_of (codes "export") rows))
+    (slots_among rows)
 
 -- The job of a subcommand that takes the path of a DEF file and at least one path of a LEF file.
 abbrev pub job_over : Subcommand → Option Text → List Text → List Row → Option Job
@@ -453,6 +485,10 @@ as_job (task.Repair def lefs state slots teams options files) =
 as_job (task.Improve def lefs slots teams within options files) =
     improve def.now (map (λ lef. lef.now) lefs) slots.number (map (λ team. team.now) teams) within options
     (repair_paths files)
+as_job (task.Slice def lefs team output) = slice def.now (map (λ lef. lef.now) lefs) team.now output.now
+as_job (task.Gather def lefs states slots save export) =
+    gather def.now (map (λ lef. lef.now) lefs) (map (λ state. state.now) states) slots.number
+    (option_map (λ path. path.now) save) (option_map (λ path. path.now) export)
 
 -- Holds if the task reads no line.
 abbrev pub ReadsNone : Task → Type 0

@@ -5,11 +5,11 @@ ghost use Rattle.std.specs.List.{list_any};
 ghost use Rattle.clap.specs.Matches.{found_of};
 ghost use Rattle.clap.specs.Simple.{subcommand_rows_of};
 ghost use Rattle.clap.specs.Walk.{all_of, first_of, rows_of};
-ghost use Rattle.lf_cli.specs.declared.subcommand.Subcommand.TheVariants.{Check, Describe, Improve, Repair, Replay, Serve, Wirelength};
+ghost use Rattle.lf_cli.specs.declared.subcommand.Subcommand.TheVariants.{Check, Describe, Gather, Improve, Repair, Replay, Serve, Slice, Wirelength};
 ghost use Rattle.lf_cli.specs.declared.parse.UsageFault.TheVariants.{Usage};
 ghost use Rattle.lf_cli.specs.Command.{as_job, clash_among, clash_of, density_requested, improve_options_among, is_among, is_demo, is_same, is_set, job_requested, job_by, job_found, job_of, job_on};
-ghost use Rattle.lf_cli.specs.Command.{export_clash, improvement_paths_among, legal_cells, lines_clash, most_lines, moves_requested, number_in, repair_clash, repair_options_among, repair_paths, repair_paths_among, replay_clash};
-ghost use Rattle.lf_cli.specs.Command.{rounds_requested, save_clash, service_of, slots_among, tries_requested, unless_clash, values_of, within_requested, working_clash, working_repeats};
+ghost use Rattle.lf_cli.specs.Command.{export_clash, gather_clash, improvement_paths_among, legal_cells, lines_clash, most_lines, moves_requested, number_in, repair_clash, repair_options_among, repair_paths, repair_paths_among, replay_clash};
+ghost use Rattle.lf_cli.specs.Command.{rounds_requested, save_clash, service_of, slice_clash, slots_among, tries_requested, unless_clash, values_of, within_requested, working_clash, working_repeats};
 
 use crate::session_slots::{MOST_SLOTS, Slots};
 use crate::subcommand::{
@@ -182,6 +182,27 @@ pub enum Task<'a> {
         options: ImproveOptions,
         /// No file has the working places, and no state is saved.
         files: RepairFiles<'a>,
+    },
+    /// Writes the DEF text of one team.
+    Slice {
+        def: &'a str,
+        lefs: Sequence<&'a str>,
+        /// The name of the team.
+        team: &'a str,
+        /// The path to which the text is written.
+        output: &'a str,
+    },
+    /// Gathers the teams of several saved states.
+    Gather {
+        def: &'a str,
+        lefs: Sequence<&'a str>,
+        /// The paths of the saved states, in the order of the words.
+        states: Sequence<&'a str>,
+        slots: Slots,
+        /// The path to which the gathered state is saved, if any.
+        save: Option<&'a str>,
+        /// The path of the exported DEF file, if any.
+        export: Option<&'a str>,
     },
 }
 
@@ -595,6 +616,49 @@ fn improve_on<'a>(
     }
 }
 
+/// Makes the task of a slice on these paths.
+fn slice_on<'a>(def: &'a str, lefs: Sequence<&'a str>, matches: &ArgMatches<'a>) -> Option<Task<'a>>
+    ensures { option_map as_job result
+        ≡ job_on Slice def.now (map (λ lef. lef.now) lefs.entry) (rows_of (found_of matches.now)) }
+{
+    let team = value_of(matches, "team")?;
+    let output = value_of(matches, "output")?;
+    Some(Task::Slice {
+        def,
+        lefs,
+        team,
+        output,
+    })
+}
+
+/// Makes the task of gathering on these paths.
+fn gather_on<'a>(
+    alloc: Global,
+    def: &'a str,
+    lefs: Sequence<&'a str>,
+    matches: &ArgMatches<'a>,
+) -> Result<Option<Task<'a>>, AllocError>
+    ensures { IfOk result (λ task. option_map as_job task
+        ≡ job_on Gather def.now (map (λ lef. lef.now) lefs.entry) (rows_of (found_of matches.now))) }
+{
+    let Some(slots) = slots_of(matches) else {
+        return Ok(None);
+    };
+    let save = value_of(matches, "save");
+    let export = value_of(matches, "export");
+    match values_of(alloc, matches, "state") {
+        Ok(states) => Ok(Some(Task::Gather {
+            def,
+            lefs,
+            states,
+            slots,
+            save,
+            export,
+        })),
+        Err(error) => Err(error),
+    }
+}
+
 /// Makes the task of a subcommand on these paths.
 fn task_on<'a>(
     alloc: Global,
@@ -615,6 +679,8 @@ fn task_on<'a>(
         Subcommand::Serve => Ok(serve_on(def, lefs, matches)),
         Subcommand::Repair => repair_on(alloc, def, lefs, matches),
         Subcommand::Improve => improve_on(alloc, def, lefs, matches),
+        Subcommand::Slice => Ok(slice_on(def, lefs, matches)),
+        Subcommand::Gather => gather_on(alloc, def, lefs, matches),
     }
 }
 
@@ -827,6 +893,38 @@ fn repair_clash(
     None
 }
 
+/// Returns the option whose file would replace another file of a slice, or `None`.
+fn slice_clash(def: &str, lefs: &[&str], output: &str) -> Option<&'static str>
+    ensures { option_map (λ word. word.now) result ≡ slice_clash def.now (map (λ lef. lef.now) lefs.now) output.now }
+{
+    if is_same(Some(output), Some(def)) || is_among(Some(output), lefs) {
+        return Some("output");
+    }
+    None
+}
+
+/// Returns the option whose file would replace another file of a task that gathers states, or
+/// `None`.
+fn gather_clash(
+    def: &str,
+    lefs: &[&str],
+    states: &[&str],
+    save: Option<&str>,
+    export: Option<&str>,
+) -> Option<&'static str>
+    ensures { option_map (λ word. word.now) result ≡ gather_clash def.now (map (λ lef. lef.now) lefs.now)
+        (map (λ state. state.now) states.now) (option_map (λ path. path.now) save.entry)
+        (option_map (λ path. path.now) export.entry) }
+{
+    if is_same(save, Some(def)) || is_among(save, lefs) {
+        return Some("save");
+    }
+    if is_among(export, states) || is_same(export, save) || is_among(export, lefs) {
+        return Some("export");
+    }
+    None
+}
+
 /// Returns the option whose file would replace another file of the task, or `None`. Takes time
 /// linear in the number of LEF files.
 fn clash_of(task: &Task<'_>) -> Option<&'static str>
@@ -863,6 +961,20 @@ fn clash_of(task: &Task<'_>) -> Option<&'static str>
             files,
             ..
         } => repair_clash(*def, lefs.as_slice(), None, *files),
+        Task::Slice {
+            def,
+            lefs,
+            output,
+            ..
+        } => slice_clash(*def, lefs.as_slice(), *output),
+        Task::Gather {
+            def,
+            lefs,
+            states,
+            save,
+            export,
+            ..
+        } => gather_clash(*def, lefs.as_slice(), states.as_slice(), *save, *export),
         _ => None,
     }
 }
@@ -912,8 +1024,11 @@ fn matches_of<'a>(alloc: Global, words: &'a [&'a str]) -> Result<ArgMatches<'a>,
 ///
 /// - `serve` needs `--port P`, from 1 to 65535, and `--connections N`, from 1 to 1,000,000
 /// - `replay` may have `--lines N`, from 1 to 4,294,967,295
-/// - `serve`, `replay` and `repair` may have `--save FILE` and `--export FILE`
-/// - all may have `--sessions N`, from 1 to 64, and all but `improve` `--state FILE`
+/// - `slice` needs `--team NAME` and `--output FILE`
+/// - `gather` needs `--state FILE`, once or more
+/// - `serve`, `replay`, `repair` and `gather` may have `--save FILE` and `--export FILE`
+/// - all but `slice` may have `--sessions N`, from 1 to 64, and all but `slice` and `improve`
+///   `--state FILE`
 /// - `check` may have `--committed`
 /// - `repair` may have `--export-working FILE`, `--lines FILE`, `--keep` or `--all`, `--effort N`, from
 ///   0 to 10,000, `--within ROWS`, from 1 to 65535, `--balance-heights`, `--near-nets`, and
@@ -922,7 +1037,8 @@ fn matches_of<'a>(alloc: Global, words: &'a [&'a str]) -> Result<ArgMatches<'a>,
 ///   `--rounds N`, from 1 to 100, `--effort N`, from 0 to 10,000, `--density P`, from 1 to 100, and
 ///   `--team NAME` any number of times
 ///
-/// Each option except `--team` is given at most once. No FILE that is written may be one that is
+/// Each option is given at most once, except `--team` of `repair` and `improve` and `--state` of
+/// `gather`. No FILE that is written may be one that is
 /// read, or be written twice; paths are compared as written. There are two exceptions: `--export`
 /// may name the DEF file, and `--save` may name the FILE of `--state`.
 ///

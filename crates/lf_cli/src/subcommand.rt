@@ -4,7 +4,7 @@ ghost use Rattle.std.specs.Prelude.{◌≡◌, [], ◌∷◌, bytes_eq, codes, f
 ghost use Rattle.clap.specs.Simple.{app_of, with_rule};
 ghost use Rattle.clap.specs.Walk.{rule_of};
 ghost use Rattle.clap.specs.declared.builder.command.Command.TheViews.{out-Command};
-ghost use Rattle.lf_cli.specs.declared.subcommand.Subcommand.TheVariants.{Check, Improve, Repair, Replay, Serve};
+ghost use Rattle.lf_cli.specs.declared.subcommand.Subcommand.TheVariants.{Check, Gather, Improve, Repair, Replay, Serve, Slice};
 ghost use Rattle.lf_cli.specs.Command.{command_line, def_rule, design_line, effort_rule, flag_rule, lef_rule, line_of, needed, number_rule, repeated_rule, slots_rule, subcommand_named, text_rule, with_subcommand_line, subcommand_word};
 
 use crate::session_slots::MOST_SLOTS;
@@ -46,10 +46,14 @@ pub enum Subcommand {
     Repair,
     /// Moves legal cells so that the wires of a design become shorter.
     Improve,
+    /// Writes the DEF text of one team.
+    Slice,
+    /// Gathers the teams of several saved states.
+    Gather,
 }
 
 /// All subcommands, in the order in which they are listed.
-const SUBCOMMANDS: [Subcommand; 8] = [
+const SUBCOMMANDS: [Subcommand; 10] = [
     Subcommand::Demo,
     Subcommand::Check,
     Subcommand::Describe,
@@ -58,6 +62,8 @@ const SUBCOMMANDS: [Subcommand; 8] = [
     Subcommand::Serve,
     Subcommand::Repair,
     Subcommand::Improve,
+    Subcommand::Slice,
+    Subcommand::Gather,
 ];
 
 /// Returns the word of a subcommand.
@@ -73,6 +79,8 @@ fn word_of(chosen: Subcommand) -> &'static str
         Subcommand::Serve => "serve",
         Subcommand::Repair => "repair",
         Subcommand::Improve => "improve",
+        Subcommand::Slice => "slice",
+        Subcommand::Gather => "gather",
     }
 }
 
@@ -159,6 +167,22 @@ fn needed_number<'a>(alloc: Global, name: &'a str, most: u64) -> Arg<'a>
     ensures local { result.global ≡ false }
 {
     number(alloc, name, most).required(true)
+}
+
+/// Declares a required option whose value is a text.
+fn needed_text<'a>(alloc: Global, name: &'a str) -> Arg<'a>
+    ensures rule { rule_of result ≡ needed (text_rule name.now) }
+    ensures local { result.global ≡ false }
+{
+    text(alloc, name).required(true)
+}
+
+/// Declares an option whose value is a text, which is given once or more.
+fn needed_texts<'a>(alloc: Global, name: &'a str) -> Arg<'a>
+    ensures rule { rule_of result ≡ needed (repeated_rule name.now) }
+    ensures local { result.global ≡ false }
+{
+    repeated(alloc, name).required(true)
 }
 
 /// Declares a subcommand of this name that takes the paths of a design.
@@ -322,6 +346,28 @@ fn improve<'a>(alloc: Global) -> Result<Command<'a>, AllocError>
         .arg(text(alloc, "lines"))
 }
 
+/// Declares the subcommand that writes the DEF text of one team.
+fn slice<'a>(alloc: Global) -> Result<Command<'a>, AllocError>
+    ensures line { IfOk result (λ made. app_of made ≡ line_of Slice) }
+    ensures local { IfOk result (λ made. (out-Command made).has_globals ≡ false) }
+{
+    over_design(alloc, "slice")?
+        .arg(needed_text(alloc, "team"))?
+        .arg(needed_text(alloc, "output"))
+}
+
+/// Declares the subcommand that gathers the teams of several saved states.
+fn gather<'a>(alloc: Global) -> Result<Command<'a>, AllocError>
+    ensures line { IfOk result (λ made. app_of made ≡ line_of Gather) }
+    ensures local { IfOk result (λ made. (out-Command made).has_globals ≡ false) }
+{
+    over_design(alloc, "gather")?
+        .arg(needed_texts(alloc, "state"))?
+        .arg(slots(alloc))?
+        .arg(text(alloc, "save"))?
+        .arg(text(alloc, "export"))
+}
+
 /// Declares the words that a subcommand takes.
 fn line_of<'a>(alloc: Global, chosen: Subcommand) -> Result<Command<'a>, AllocError>
     ensures line { IfOk result (λ made. app_of made ≡ line_of chosen) }
@@ -336,6 +382,8 @@ fn line_of<'a>(alloc: Global, chosen: Subcommand) -> Result<Command<'a>, AllocEr
         Subcommand::Serve => serve(alloc),
         Subcommand::Repair => repair(alloc),
         Subcommand::Improve => improve(alloc),
+        Subcommand::Slice => slice(alloc),
+        Subcommand::Gather => gather(alloc),
     }
 }
 

@@ -5,8 +5,8 @@ use Rattle.lf_cli.specs.Command.{subcommand_named}
 use Rattle.lf_cli.specs.declared.help.Help.{Help}
 use Rattle.lf_cli.specs.declared.help.Help.TheVariants.{Program, Version, Of}
 use Rattle.lf_cli.specs.declared.subcommand.Subcommand.{Subcommand}
-use Rattle.lf_cli.specs.declared.subcommand.Subcommand.TheVariants.{Demo, Check, Describe, Wirelength, Replay, Serve, Repair, Improve}
-use Rattle.lf_task_usage.specs.declared.help_texts.TheConstants.{PROGRAM, VERSION, DEMO, CHECK, DESCRIBE, WIRELENGTH, REPLAY, SERVE, REPAIR, IMPROVE}
+use Rattle.lf_cli.specs.declared.subcommand.Subcommand.TheVariants.{Demo, Check, Describe, Wirelength, Replay, Serve, Repair, Improve, Slice, Gather}
+use Rattle.lf_task_usage.specs.declared.help_texts.TheConstants.{PROGRAM, VERSION, DEMO, CHECK, DESCRIBE, WIRELENGTH, REPLAY, SERVE, REPAIR, IMPROVE, SLICE, GATHER}
 use Rattle.lf_task_usage.specs.declared.usage.TheConstants.{HINT, ANY_HINT}
 
 -- ---- help
@@ -21,6 +21,8 @@ subcommand_text Replay = REPLAY.now
 subcommand_text Serve = SERVE.now
 subcommand_text Repair = REPAIR.now
 subcommand_text Improve = IMPROVE.now
+subcommand_text Slice = SLICE.now
+subcommand_text Gather = GATHER.now
 
 -- The text of the requested help, or of the version.
 abbrev pub help_text : Help → List ℕ

@@ -29,6 +29,10 @@ pub(crate) const PROGRAM: &str =
   lefence improve DEF LEF... [--team NAME]... [--within ROWS] [--rounds N] [--effort N] [--density P]
               [--export FILE] [--lines FILE] [--sessions N]
                                 moves legal cells so that the nets become shorter
+  lefence slice DEF LEF... --team NAME --output FILE
+                                writes the DEF text of one team: the frame and that team's cells
+  lefence gather DEF LEF... --state FILE... [--save FILE] [--export FILE] [--sessions N]
+                                gathers the teams of several saved states; then writes the DEF text or the state
   (put -- before a path that begins with '-'; docs/CLI.md says more)
 
   lefence demo --help           what a subcommand does, with an example (so for each of them)
@@ -156,6 +160,30 @@ example:
   lefence improve chip.def tech.lef cells.lef --export new.def
 ";
 
+pub(crate) const SLICE: &str = "lefence slice DEF LEF... --team NAME --output FILE
+
+Writes the slice of a team to FILE: a DEF text with the rows, fences, blockages, FIXED and COVER components of the
+design, and of the other components those of the team alone. NAME is the name of a FENCE region, or '-' for the ground
+outside all fences. On the slice the program answers the team's commands as on the whole design, byte for byte. Pins
+and nets are left out. The exit status is 0.
+
+example:
+  lefence slice chip.def tech.lef cells.lef --team A --output A.def
+";
+
+pub(crate) const GATHER: &str =
+    "lefence gather DEF LEF... --state FILE [--state FILE]... [--save FILE] [--export FILE] [--sessions N]
+
+Puts the teams of several saved states of one design together. A team is taken from the states that have changed it:
+those in which its revision is above 0. If two states have changed a team, it must be the same in both. A team that no
+state has changed is taken from the first one. --export writes the DEF text with the committed places to FILE, and
+--save the gathered state. With --sessions, each team has N session slots, as in the states (1 to 64; 8 if not given).
+The exit status is 0 if the committed design is fully legal, and 4 if it is not.
+
+example:
+  lefence gather chip.def tech.lef cells.lef --state A.state --state B.state --export new.def
+";
+
 /// Returns the help of a subcommand.
 fn subcommand_text(chosen: Subcommand) -> &'static str
     ensures { result.now ≡ subcommand_text chosen }
@@ -169,6 +197,8 @@ fn subcommand_text(chosen: Subcommand) -> &'static str
         Subcommand::Serve => SERVE,
         Subcommand::Repair => REPAIR,
         Subcommand::Improve => IMPROVE,
+        Subcommand::Slice => SLICE,
+        Subcommand::Gather => GATHER,
     }
 }
 

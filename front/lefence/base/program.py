@@ -90,7 +90,7 @@ def held_program(path: str) -> str:
 
 class Program:
     """The program with the files of a design: `replay` answers lines, `describe` describes it, `repair` repairs its
-    teams, `wirelength` measures its nets.
+    teams, `wirelength` measures its nets, `slice` cuts slices.
 
     A `Run` blocks. An `AsyncRun` uses asyncio, which is imported only then.
     """
@@ -166,6 +166,16 @@ class Program:
                 total: dict[str, Any] = json.loads(lines[-1])
                 return total
             raise run.fault(lost_text(run.wait()))
+
+    def slice(self, team: str) -> bytes:
+        """Has the program cut the slice of a team; returns its text. Raises a Fault if it fails."""
+        with tempfile.TemporaryDirectory(prefix="lefence-slice-") as folder:
+            sliced = Path(folder) / "slice.def"
+            words = [self.path, "slice", f"--team={team}", "--output", str(sliced), *self._words]
+            with Run(words) as run:
+                if status := run.wait():
+                    raise run.fault(lost_text(status))
+            return sliced.read_bytes()
 
     def replay_on(self, end: socket.socket) -> subprocess.Popen[bytes]:
         """Starts a program that answers the lines of a socket. It ignores the terminal's Ctrl-C and shares standard

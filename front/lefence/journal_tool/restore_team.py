@@ -10,7 +10,6 @@ from pathlib import Path
 from typing import NamedTuple
 
 from ..base.atomic_file import write_output
-from ..base.design import complete_design
 from ..base.faults import DONE, FAILED, REFUSED, USAGE, Fault, log
 from ..base.program import Program
 from ..base.protocol import is_accepted
@@ -21,7 +20,6 @@ from ..journal.frames import Reader, Record
 from ..journal.segments import Archive, State, open_segments, records_in
 from ..journal.texts import kept_text
 from ..push.order_moves import plan_of
-from ..slice.main import slice_of_design
 from ..slice.splice import Spot, spots_in, with_spots
 
 # The note of a savepoint: its team and its name.
@@ -155,8 +153,7 @@ def restore_team(journal: Path, team: str, when: str, program: str, output: Path
     if len(kept) != len(header.texts):
         raise Fault(REFUSED, f"{journal}: {len(header.texts)} files, but {len(kept)} are kept next to it")
     past = asyncio.run(past_of(journal, team, when, Program(program, kept, header.slots)))
-    design = complete_design(kept[0], kept[0].read_bytes())
-    sliced = with_spots(slice_of_design(design, team), past.now)
+    sliced = with_spots(Program(program, kept).slice(team), past.now)
     unplaced = [cell for cell, spot in past.then.items() if spot is None and past.now[cell]]
     wanted = {cell: spot for cell, spot in past.then.items() if spot}
     plan = plan_of(Program(program, kept), team, with_spots(sliced, dict.fromkeys(unplaced)), wanted, past.padding)

@@ -32,7 +32,7 @@ def push_places(program: Program, where: str, teams: list[str], ahead: int) -> s
         wanted = _new_places(program.texts[0], team)
         for _ in range(_PLANS):
             with endpoint.connection.session(team) as session:
-                plan = plan_of(program, team, current_slice(program.texts[0], session), wanted)
+                plan = plan_of(program, team, current_slice(program, session), wanted)
                 push = TeamPush(session)
                 try:
                     for burst in _bursts(plan.groups, ahead):

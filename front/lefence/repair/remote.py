@@ -25,7 +25,7 @@ def repair_remote(tool: str, where: str, teams: list[str], program: Program, opt
         team = one_team(endpoint, teams)
         with tempfile.TemporaryDirectory(prefix=tool) as folder, endpoint.connection.session(team) as session:
             sliced = Path(folder) / "slice.def"
-            sliced.write_bytes(current_slice(program.texts[0], session))
+            sliced.write_bytes(current_slice(program, session))
             texts = [sliced, *program.texts[1:]]
             sliced_program = Program(program.path, texts)
             repair = RepairRun(tool, sliced_program, options, Path(folder), is_exported=False, teams=[team])

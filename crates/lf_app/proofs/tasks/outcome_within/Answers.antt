@@ -6,7 +6,7 @@ use Rattle.lf_task_run.specs.Outputs.{BlamesOutputs, WritesExportAlone, WritesNo
 use Rattle.lf_task_run.specs.Tasks.{request_of}
 use Rattle.lf_task_repair.specs.Repairs.{repair_means}
 use Rattle.lf_task_improve.specs.Works.{improve_means}
-use Rattle.lf_app.proofs.TaskSteps.{done_at, not_done_at, requested_at, sound_by, stops_untouched}
+use Rattle.lf_app.proofs.TaskSteps.{done_at, files_blame, not_done_at, ok_with, requested_at, sound_by, stops_untouched, unput_fails}
 use Rattle.lf_app.proofs.tasks.outcome_within.Goals as goal
 
 pub returns-in-Replay-clause-ok : goal.returns-in-Replay-clause-ok
@@ -159,3 +159,48 @@ returns-in-Improve-clause-unasked g c = λ none.
 
 pub returns-in-Improve-clause-silent : goal.returns-in-Improve-clause-silent
 returns-in-Improve-clause-silent g c = λ nothing. let never : true ≡ false = rw c.in-Improve.is at nothing in absurd (cc never)
+
+pub returns-in-Slice-clause-ok : goal.returns-in-Slice-clause-ok
+returns-in-Slice-clause-ok g c =
+    let i = rw c.in-Slice.is at c.input_of-inputs.ensures in
+    rw c.in-Slice.is (ok_with c.slice_files.result _ _ (rw (i.def_is, i.lefs_are, i.limits_are) at c.slice_files.ensures.ok) c.slice_files.ensures.status)
+
+pub returns-in-Slice-clause-err : goal.returns-in-Slice-clause-err
+returns-in-Slice-clause-err g c =
+    let i = rw c.in-Slice.is at c.input_of-inputs.ensures in
+    rw c.in-Slice.is (unput_fails c.slice_files.result _ _ _ _ (rw (i.def_is, i.lefs_are, i.limits_are) at c.slice_files.ensures.err) c.slice_files.ensures.unput
+    (λ fault blames. files_blame fault _ _ _ _ _ _ _ blames refl (λ same. record { exports = same; services = refl; reader = refl; writer = refl })))
+
+pub returns-in-Slice-clause-unasked : goal.returns-in-Slice-clause-unasked
+returns-in-Slice-clause-unasked g c = λ asks.
+    let none = rw c.in-Slice.is at asks in
+    absurd (cc none.export)
+
+pub returns-in-Slice-clause-unput : goal.returns-in-Slice-clause-unput
+returns-in-Slice-clause-unput g c = λ alone. c.slice_files.ensures.unput
+
+pub returns-in-Gather-clause-ok : goal.returns-in-Gather-clause-ok
+returns-in-Gather-clause-ok g c =
+    let i = rw c.in-Gather.is at c.input_of-inputs.ensures in
+    let o = rw c.in-Gather.is at c.outputs_of-in-Gather.ensures in
+    rw c.in-Gather.is (rw (i.def_is, i.lefs_are, i.limits_are, o.save_is, o.export_is, c.as_slice-in-Gather.ensures) at c.gather_files.ensures.ok)
+
+pub returns-in-Gather-clause-err : goal.returns-in-Gather-clause-err
+returns-in-Gather-clause-err g c =
+    let i = rw c.in-Gather.is at c.input_of-inputs.ensures in
+    let o = rw c.in-Gather.is at c.outputs_of-in-Gather.ensures in
+    rw c.in-Gather.is (also_fails c.gather_files.result _ _ _
+    (rw (i.def_is, i.lefs_are, i.limits_are, o.save_is, o.export_is, c.as_slice-in-Gather.ensures) at c.gather_files.ensures.err)
+    (λ fault blames. files_blame fault _ _ _ _ _ _ _ blames refl (λ same. record { exports = same; services = refl; reader = refl; writer = refl })))
+
+pub returns-in-Gather-clause-unput : goal.returns-in-Gather-clause-unput
+returns-in-Gather-clause-unput g c = λ alone.
+    let none = rw c.in-Gather.is at alone in
+    let o = rw c.in-Gather.is at c.outputs_of-in-Gather.ensures in
+    c.gather_files.ensures.unput (o.save_is ∙ none.save)
+
+pub returns-in-Gather-clause-unasked : goal.returns-in-Gather-clause-unasked
+returns-in-Gather-clause-unasked g c = λ asks.
+    let none = rw c.in-Gather.is at asks in
+    let o = rw c.in-Gather.is at c.outputs_of-in-Gather.ensures in
+    c.gather_files.ensures.unasked (o.save_is ∙ none.save) (o.export_is ∙ none.export)

@@ -1,0 +1,2 @@
+mod GatherSteps
+mod WriteSteps

@@ -1,0 +1,3 @@
+mod OwnCells
+mod Same
+mod SliceSteps

@@ -1,0 +1,10 @@
+use Rattle.std.proofs.Common.{arith, ◌≡◌, length}
+use Rattle.std.proofs.lemmas.List.{ext_get_or}
+use Rattle.lf_task_slice.proofs.Same.{no_row}
+use Rattle.lf_task_slice.proofs.alike_frames.are_same_rows.Goals as goal
+
+pub returns : goal.returns
+returns c =
+    let many : length c.args.one.now ≡ length c.args.other.now = c.if-one-other.false in
+    λ _. ext_get_or no_row c.args.one.now c.args.other.now many
+    (λ k within. c.loop-at.invariant.same k (omega (arith, within, c.loop-at-test.false, c.loop-at.auto.at-end)))
