@@ -35,15 +35,15 @@ fault_beside (Reader limit) begin fault input left before after old_puts new_put
 fault_beside (Port port connections) begin fault input left before after old_puts new_puts other_old other_new old_accepted new_accepted is = is
 
 -- Why the work on the design of a text fails is why the work on that of its files fails.
-pub undone : (limits : Limits) (gives : ReadsFile) (def : List ℕ) (lefs : List (List ℕ)) (state save export : Option (List ℕ)) (lines : LineSource) (text : List ℕ)
+pub undone : (limits : Limits) (gives : ReadsFile) (def : List ℕ) (lefs : List (List ℕ)) (state journal save export : Option (List ℕ)) (lines : LineSource) (text : List ℕ)
     (document : Document) (loaded : Loaded) (fault : Fault) (io : Streams) → IsOpened limits gives def lefs text document loaded
-    → IsNotServedDesign gives state save export lines loaded text document fault io
-    → IsUndone limits gives def lefs state save export (IsServingFault lines) (AreAnswered lines) fault io
-undone limits gives def lefs state save export lines text document loaded fault io is (inl unbegun) =
+    → IsNotServedDesign limits gives def lefs state journal save export lines loaded text document fault io
+    → IsUndone limits gives def lefs state journal save export (IsServingFault lines) (AreAnswered lines) fault io
+undone limits gives def lefs state journal save export lines text document loaded fault io is (inl unbegun) =
     inl (inl (inr (loaded, design_opened limits gives def lefs text document loaded is, unbegun.0), unbegun.1), unbegun.1.unput)
-undone limits gives def lefs state save export lines text document loaded fault io is (inr (begin, begins, inl stopped)) =
+undone limits gives def lefs state journal save export lines text document loaded fault io is (inr (begin, begins, inl stopped)) =
     inl (inr (begin, (loaded, design_opened limits gives def lefs text document loaded is, begins), stopped.0), stopped.1)
-undone limits gives def lefs state save export lines text document loaded fault io is (inr (begin, begins, inr unsaved)) =
+undone limits gives def lefs state journal save export lines text document loaded fault io is (inr (begin, begins, inr unsaved)) =
     inr (unsaved.0, record { text = text; document = document; loaded = loaded; opened = is; begin = begin; begins = begins; finished = unsaved.1 })
 
 -- A fault of the files written after the lines leaves the work unfinished.

@@ -1,4 +1,4 @@
-use Rattle.std.proofs.Common.{◌≡◌, ◌++◌, ℕ, drop, map}
+use Rattle.std.proofs.Common.{◌≡◌, ◌++◌, drop, map}
 use Rattle.lf_journal_text.specs.Records.{names_text}
 use Rattle.lf_journal_text.proofs.beginning.put_names.Given as goal
 

@@ -1,14 +1,13 @@
-use Rattle.std.proofs.Common.{◌∙◌, ap, inl, inr, refl, subst, sym, Option}
+use Rattle.std.proofs.Common.{◌∙◌, ap, inl, inr, map, refl, subst, sym, Option}
 use Rattle.std.proofs.lemmas.Result.{IfErr-weaker, err_from_is_err_and}
 use Rattle.std.specs.Prelude.{option_copied}
 use Rattle.lf_task_designs.specs.declared.opening.SourceText.{SourceText}
 use Rattle.lf_task_designs.specs.Designs.{AreKept}
-use Rattle.lf_floor_model.specs.Designs.{initial_floor}
 use Rattle.lf_task_files.specs.Exits.{CanBePut}
 use Rattle.lf_task_files.specs.Inputs.{path_of}
 use Rattle.lf_task_files.proofs.KeptTexts.{can_be_put}
-use Rattle.lf_task_files.proofs.Measuring.{begun_components}
-use Rattle.lf_task_files.proofs.WorkSteps.{early_blames, unbegun_early, weaker_ok}
+use Rattle.lf_task_files.proofs.WorkSteps.{early_blames, weaker_ok}
+use Rattle.lf_task_journal.proofs.Early.{not_begun_early}
 use Rattle.lf_task_serve.proofs.LineSteps.{still_sound}
 use Rattle.lf_task_serve.proofs.serve_task.serve_design.Goals as goal
 
@@ -24,7 +23,7 @@ serve_floor-requires g c =
           (can_be_put design.original of.text of.document places of.are
           (c.kept_clauses_suffice.ensures.ready of.text of.document places of.read (c.loaded_cells_are_exportable.ensures _ design.loaded places of.loads
           (c.places_follow_design.ensures design.loaded s places
-          (same ∙ begun_components (g.D.Texts.InputFiles.gives c.args.environment.now.texts) (path_of c.args.state) (initial_floor design.loaded) c.in_ok-floor.floor c.in_ok-floor.ensures.ok) are))));
+          (same ∙ c.in_ok-floor.ensures.components) are))));
     }
 
 pub returns-clause-ok : goal.returns-clause-ok
@@ -44,5 +43,6 @@ returns-in_err-floor-clause-err g c = λ text document are.
     rw (p.1, p.2) (
       inl (c.in_err-floor.ensures.err, record { unread = refl; unwritten = refl; unput = refl; unaccepted = refl }),
       early_blames _ _ _ _ _ _ _ refl (still_sound _)
-          (unbegun_early (g.D.Texts.InputFiles.gives c.args.environment.now.texts) (path_of c.args.state) c.args.design.loaded _ c.in_err-floor.ensures.err),
+          (not_begun_early c.args.inputs.limits (g.D.Texts.InputFiles.gives c.args.environment.now.texts) c.args.inputs.def.now (map (λ lef. lef.now) c.args.inputs.lefs.now)
+          (path_of c.args.inputs.state) (path_of c.args.journal) c.args.design.loaded _ c.in_err-floor.ensures.err),
     )

@@ -36,7 +36,7 @@ pub returns-clause-err : goal.returns-clause-err
 returns-clause-err g c =
     let is = c.in_ok-design.ensures.ok in
     step_fails c.serve_design.result _ _ _ (c.serve_design.ensures.err is.text is.document is.are)
-    (λ fault why. undone _ _ _ _ (path_of c.args.inputs.state) (path_of c.args.outputs.save) (path_of c.args.outputs.export) c.args.lines is.text is.document
+    (λ fault why. undone _ _ _ _ (path_of c.args.inputs.state) (path_of c.args.journal) (path_of c.args.outputs.save) (path_of c.args.outputs.export) c.args.lines is.text is.document
     c.in_ok-design.design.loaded fault _ is.opened why)
 
 pub returns-in_err-design-clause-err : goal.returns-in_err-design-clause-err
