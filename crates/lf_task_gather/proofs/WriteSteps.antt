@@ -10,7 +10,7 @@ use Rattle.lf_floor_model.specs.Designs.{initial_floor}
 use Rattle.lf_floor_model.specs.States.{FloorState}
 use Rattle.lf_floor.specs.Saved.{ShareDesign, design_names}
 use Rattle.lf_task_faults.specs.declared.faults.Fault.{Fault}
-use Rattle.lf_task_faults.specs.declared.faults.Fault.TheVariants.{Refused, File, RefusedState, NoTeam, TeamDiffers, SliceDiffers, ReadFault, WriteFault, TooManyLines, OutOfMemory, Output, Bind, Accept, NotWritten, SetupOutOfMemory, OutputOutOfMemory}
+use Rattle.lf_task_faults.specs.declared.faults.Fault.TheVariants.{Refused, File, RefusedState, RefusedJournal, NoTeam, RefusedTeam, TeamDiffers, SliceDiffers, ReadFault, WriteFault, TooManyLines, OutOfMemory, Output, Bind, Accept, NotWritten, SetupOutOfMemory, OutputOutOfMemory}
 use Rattle.lf_task_faults.specs.declared.faults.OutputKind.TheVariants.{Export, Save}
 use Rattle.lf_task_faults.specs.Faults.{IsEarly}
 use Rattle.lf_task_designs.specs.Designs.{ReadsFile}
@@ -26,7 +26,9 @@ team_early : (f : Frame) (path : List ℕ) (number : ℕ) (fault : Fault) → Is
 team_early f path number (Refused file its) is = absurd is
 team_early f path number (File file why) is = absurd is
 team_early f path number (RefusedState its_path its) is = absurd is
+team_early f path number (RefusedJournal its_path its) is = absurd is
 team_early f path number (NoTeam name) is = absurd is
+team_early f path number (RefusedTeam name cause) is = absurd is
 team_early f path number (TeamDiffers differing team) is = tt
 team_early f path number SliceDiffers is = absurd is
 team_early f path number ReadFault is = absurd is
