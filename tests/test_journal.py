@@ -25,7 +25,7 @@ RECORDS = [
     ("place A 0 a2 200 0 N", "no 7 Illegal 8 a2 a1"),
     ("place A 0 a2 400 0 N", "ok 2"),
     ("undo A 0", "ok 3"),
-    ("tidy A 0", "ok 4 0"),
+    ("tidy A 0", "ok 4 2"),
     ("commit A 0", "ok 5"),
 ]
 
@@ -94,7 +94,7 @@ class Run(Journals):
     """Journals that are run."""
 
     def test_lines_continue_after_the_journal(self) -> None:
-        ran = self.replay(self.start + batches(RECORDS), "where A 0 a1\nplace A 0 a2 800 0 N\nopen A\n")
+        ran = self.replay(self.start + batches(RECORDS), "where A 0 a1\nunplace A 0 a2\nopen A\n")
         self.assertEqual(ran, (0, "ok 0 0 N\nok 6\nok 1 6\n", ""))
 
     def test_the_state_is_that_after_the_lines(self) -> None:
@@ -106,7 +106,7 @@ class Run(Journals):
         export = self.folder / "new.def"
         status, _, said = self.replay(self.start + batches(RECORDS), "", ["--export", str(export)])
         self.assertEqual((status, said), (0, ""))
-        self.assertIn("- a1 INV + PLACED ( 0 0 ) N ;", export.read_text())
+        self.assertIn("- a1 INV + SOURCE DIST + PLACED ( 0 0 ) N ;", export.read_text())
 
     def test_several_records_in_a_batch(self) -> None:
         records = "".join(f"team-a 7\n{line}\n{reply}\n" for line, reply in RECORDS).encode()
@@ -210,7 +210,7 @@ class Refused(Journals):
                     self.assert_refused(ran, "31 BadSum", at)
                 else:
                     # What is read ends before this batch.
-                    due = ["no 5 NoSession\n", "no 5 NoSession\n", "ok 0\n"][number]
+                    due = ["no 3 NoSession\n", "no 3 NoSession\n", "ok 0\n"][number]
                     self.assertEqual(ran, (0, due, ""))
 
     def test_other_texts(self) -> None:

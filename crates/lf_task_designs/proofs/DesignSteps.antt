@@ -70,10 +70,10 @@ pub reported_for : (kind : TextKind) (path text : List ℕ) (Why : LoadFault →
     → IsRefusedText kind path text (IsReportedConflict found no_fence) fault → Why found → Why (load_fault_of Memory) → IsRefusedText kind path text (RefusedFor Why) fault
 reported_for kind path text Why found fault is holds memory = reported_as kind path text (RefusedFor Why) found no_fence fault is (holds, refl) (memory, refl)
 
-abbrev Path : Type 0
+abbrev pub Path : Type 0
 Path = Bor (List ℕ)
 
-abbrev written : List Path → List (List ℕ)
+abbrev pub written : List Path → List (List ℕ)
 written = map (λ path. path.now)
 
 -- The remaining paths extend the present library to what all paths make of the first one.
@@ -82,7 +82,7 @@ pub record GoesOn (gives : ReadsFile) (first now : Contents) (all left : List (L
   pub fault : (fault : Fault) → IsLibraryFault gives now left fault → IsLibraryFault gives first all fault
 
 -- The paths from a position on are that path and the later ones.
-ahead : (paths : List Path) (i : ℕ) (d : Path) → i < length paths → written (drop i paths) ≡ (slice_index_or paths i d).now ∷ written (drop (i + 1) paths)
+pub ahead : (paths : List Path) (i : ℕ) (d : Path) → i < length paths → written (drop i paths) ≡ (slice_index_or paths i d).now ∷ written (drop (i + 1) paths)
 ahead paths i d lt = ap written (drop-cons paths i d lt ∙ ap (λ n. slice_index_or paths i d ∷ drop n paths) (suc-eq-add-one i))
 
 -- After one more path, the remaining ones still do.
