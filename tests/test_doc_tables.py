@@ -130,8 +130,9 @@ class Session(unittest.TestCase):
 class Refusals(unittest.TestCase):
     """The tables have each refusal and each rule."""
 
-    def test_of_texts_designs_and_states(self) -> None:
-        pages = ((PROTOCOL, "LEF and DEF texts"), (PROTOCOL, "Loading"), (CLI, "State texts"), (CLI, "Messages"))
+    def test_of_texts_designs_states_and_journals(self) -> None:
+        sections = {PROTOCOL: ("LEF and DEF texts", "Loading"), CLI: ("State texts", "Journals", "Messages")}
+        pages = [(page, heading) for page, headings in sections.items() for heading in headings]
         cells = [row[0] for page, heading in pages for first, rows in tables(page, heading) for row in rows]
         listed = {name for cell in cells for name in names(cell) if re.fullmatch(r"\d+ [A-Z]\w+", name)}
         source = "".join(path.read_text() for path in (TOP / "crates/lf_task_faults/src").glob("*.rt"))

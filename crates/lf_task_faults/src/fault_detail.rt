@@ -5,7 +5,7 @@ ghost use Rattle.std.specs.Io.KnownBytes.{Appends};
 ghost use Rattle.std.specs.Char.{digit_char};
 ghost use Rattle.lf_task_faults.specs.Faults.{beside_words, bytes_words, complaint_line, complaint_words, compressed_words, earlier_words, fence_words, file_words, first_words};
 ghost use Rattle.lf_task_faults.specs.Faults.{hint_words, is_memory, conflict_words, number_words, output_kind_words, output_words, overlapped_fence_words, port_text, reason_words, refused_words, remark_words, text_refusal_words};
-ghost use Rattle.lf_task_faults.specs.Faults.{second_line, shown_bytes, shown_byte, shown_line, fence_line_words, journal_line, state_line, state_team_words, subject_words, team_complaint, team_words};
+ghost use Rattle.lf_task_faults.specs.Faults.{second_line, shown_bytes, shown_byte, shown_line, fence_line_words, journal_line, state_line, state_team_words, subject_words, team_complaint, team_words, text_kind_words};
 ghost use Rattle.lf_task_faults.specs.Faults.{claiming_fences_words, unbound_words, unpack_words, unreadable_words, unwritable_words};
 
 use crate::faults::{
@@ -59,18 +59,25 @@ fn put_shown<W: Sink>(sink: &mut W, bytes: &[u8]) -> Result<(), DeviceFault>
     Ok(())
 }
 
+/// Returns the words for a kind of text.
+fn text_kind_words(kind: TextKind) -> &'static [u8]
+    ensures { result.now ≡ text_kind_words kind }
+{
+    match kind {
+        TextKind::Lef => b"LEF file ",
+        TextKind::Def => b"DEF file ",
+        TextKind::State => b"state file ",
+        TextKind::Journal => b"journal file ",
+    }
+}
+
 /// Writes the kind of a file and its path.
 fn put_text_file<W: Sink>(sink: &mut W, file: &TextFile<'_>) -> Result<(), DeviceFault>
     ensures ok { OnOk result (Appends (W.contents sink.old) (W.contents sink.new) (file_words file.now)) }
     ensures failed { OnErr result (W.has_failed sink.new ≡ true) }
     ensures held { W.holds sink.new ≡ W.holds sink.old }
 {
-    match file.kind {
-        TextKind::Lef => send(sink, b"LEF file ")?,
-        TextKind::Def => send(sink, b"DEF file ")?,
-        TextKind::State => send(sink, b"state file ")?,
-        TextKind::Journal => send(sink, b"journal file ")?,
-    }
+    send(sink, text_kind_words(file.kind))?;
     put_shown(sink, file.path.as_bytes())
 }
 

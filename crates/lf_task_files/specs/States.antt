@@ -69,11 +69,6 @@ IsFloorFault limits gives def lefs state fault =
     IsDesignFault limits gives def lefs fault
     ⊎ ((loaded : Loaded) × IsDesignOf limits gives def lefs loaded × IsNotOpened gives state loaded fault)
 
--- The floor with which work begins.
-abbrev pub IsFloorOf : Limits → ReadsFile → List ℕ → List (List ℕ) → Option (List ℕ) → FloorState → Type 0
-IsFloorOf limits gives def lefs state begin = (loaded : Loaded) × IsDesignOf limits gives def lefs loaded
-    × IsOpenedFloor gives state (initial_floor loaded) begin
-
 -- ---- the design to show
 
 -- The design with the places of the floor in the state of the file of this path: the committed ones
