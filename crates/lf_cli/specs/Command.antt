@@ -235,8 +235,7 @@ slice_clash def lefs output =
 -- that is written. The exported text may replace the DEF file, and the gathered state a state.
 abbrev pub gather_clash : Text → List Text → List Text → Option Text → Option Text → Option Text
 gather_clash def lefs states save export =
-    if is_same save (Some def) || is_among save lefs then Some (codes "save")
-    else if is_among export states || (is_same export save || is_among export lefs) then Some (codes "export") else None
+    if is_among export states then Some (codes "export") else clash_among def lefs None save export
 
 -- The option of a job whose file would replace another of its files.
 abbrev pub clash_of : Job → Option Text

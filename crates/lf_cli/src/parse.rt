@@ -916,13 +916,10 @@ fn gather_clash(
         (map (λ state. state.now) states.now) (option_map (λ path. path.now) save.entry)
         (option_map (λ path. path.now) export.entry) }
 {
-    if is_same(save, Some(def)) || is_among(save, lefs) {
-        return Some("save");
-    }
-    if is_among(export, states) || is_same(export, save) || is_among(export, lefs) {
+    if is_among(export, states) {
         return Some("export");
     }
-    None
+    clash_among(def, lefs, None, save, export)
 }
 
 /// Returns the option whose file would replace another file of the task, or `None`. Takes time
