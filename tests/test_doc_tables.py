@@ -16,7 +16,7 @@ from program import DEF, LEF, TESTS, run
 
 TOP = TESTS.parent
 CLI, PROTOCOL = ((TOP / "docs" / name).read_text(encoding="utf-8") for name in ("CLI.md", "PROTOCOL.md"))
-SUBCOMMANDS = ("check", "describe", "wirelength", "repair", "improve", "replay", "serve")
+SUBCOMMANDS = ("check", "describe", "wirelength", "repair", "improve", "replay", "serve", "slice", "gather")
 # The small design with two cells that overlap, a legal one, and a soft blockage.
 PLACED = (
     DEF.read_text()
@@ -109,7 +109,7 @@ class Options(unittest.TestCase):
         listed = set()
         for option, subcommands, *_ in rows:
             [words] = names(option)
-            taking = SUBCOMMANDS if subcommands == "all but `demo`" else names(subcommands)
+            taking = set(SUBCOMMANDS) - {"slice"} if subcommands.startswith("all but") else names(subcommands)
             listed |= {(subcommand, words) for subcommand in taking}
         offered = set()
         for subcommand in SUBCOMMANDS:

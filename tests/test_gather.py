@@ -80,7 +80,7 @@ class Gathered(InFolder):
         broken.write_text(a.read_text().replace("team B", "team C"))
         said = f"lefence: File\nlefence: state file {missing} cannot be read: there is no such file\n"
         self.assertEqual(self.gather(a, missing, broken), (3, "", said))
-        self.assertEqual(self.gather(a, broken, missing)[2].split("\n")[0], "lefence: 26 OtherDesign line 15")
+        self.assertEqual(self.gather(a, broken, missing)[2].split("\n")[0], "lefence: 26 OtherDesign line 21")
 
     def test_a_state_may_be_replaced(self) -> None:
         a, b = self.saved("a", A), self.saved("b", B)

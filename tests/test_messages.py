@@ -64,7 +64,7 @@ class Mistakes(unittest.TestCase):
                 ["check", *DESIGN, "--exprot=x"],
                 [
                     "unexpected argument '--exprot' found",
-                    "tip: '--export' is an option of: replay, serve, repair, improve",
+                    "tip: '--export' is an option of: replay, serve, repair, improve, gather",
                 ],
             ),
             (

@@ -102,7 +102,7 @@ class Slices(InFolder):
 
     def test_a_design_that_is_refused_has_no_slice(self) -> None:
         self.design.write_text(SLICES["A"].replace("END DESIGN\n", ""))
-        self.assertEqual(self.slice("Z")[2].split("\n")[0], "lefence: 2 UnexpectedEnd line 30")
+        self.assertEqual(self.slice("Z")[2].split("\n")[0], "lefence: 2 UnexpectedEnd line 35")
         self.assertEqual(self.slice("A", self.folder / "none")[0], 3)
         self.assertEqual(self.names(), ["chip.def"])
 
