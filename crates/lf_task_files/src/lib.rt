@@ -61,5 +61,5 @@ pub use inputs::{DesignInput, open_floor, start_floor};
 pub use measured::{MeasuredFloor, RepairLimits, open_measured};
 pub use output_file::{check_output_path, put_file};
 pub use outputs::{OutputPaths, check_outputs, write_outputs};
-pub use restore::{rows_of_file, start_unplaced};
+pub use restore::{rows_of_file, start_unplaced, state_file};
 pub use save::save_to;

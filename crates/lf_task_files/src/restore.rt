@@ -21,7 +21,7 @@ use std::alloc::{AllocError, Global};
 use std::collections::VecDeque;
 
 /// Makes the description of a state file.
-pub(crate) fn state_file(path: &str) -> TextFile<'_>
+pub fn state_file(path: &str) -> TextFile<'_>
     ensures kind { result.kind ≡ State }
     ensures path { result.path.now ≡ path.now }
 {

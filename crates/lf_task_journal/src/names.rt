@@ -1,14 +1,14 @@
 //! The names of the texts of files.
 
-ghost use Rattle.std.specs.Prelude.{◌≡◌, map, IfErr, IfOk, OnOk};
+ghost use Rattle.std.specs.Prelude.{map, IfErr, IfOk, OnOk};
 ghost use Rattle.lf_task_designs.specs.Designs.{IsUnread};
-ghost use Rattle.lf_task_faults.specs.declared.faults.TextKind.TheVariants.{State};
 ghost use Rattle.lf_task_files.specs.Inputs.{path_of};
 ghost use Rattle.lf_task_journal.specs.Names.{AreAdded, HasName, IsLefUnread, IsLineOf, IsLineUnread, IsStateNamed, IsStateUnread};
 
 use lf_journal_text::{design_line, text_name};
 use lf_task_designs::{InputFiles, def_file, lef_file, read_text};
-use lf_task_faults::{Fault, TextFile, TextKind};
+use lf_task_faults::{Fault, TextFile};
+use lf_task_files::state_file;
 use std::alloc::Global;
 
 /// Returns the name of the text of a file.
@@ -66,17 +66,6 @@ pub(crate) fn line_of_files<'a, T: InputFiles>(
     put_lef_names(alloc, texts, lefs, &mut names)?;
     let line = design_line(alloc, u64::from(sessions), &names)?;
     Ok(line)
-}
-
-/// Makes the description of a state file.
-fn state_file(path: &str) -> TextFile<'_>
-    ensures kind { result.kind ≡ State }
-    ensures path { result.path.now ≡ path.now }
-{
-    TextFile {
-        kind: TextKind::State,
-        path,
-    }
 }
 
 /// Returns the name of the state of this path, or that of the empty text.

@@ -1,6 +1,6 @@
 //! Tests of journals: what no clause says of them.
 //!
-//! The tests cover `lf_journal_text`, `lf_journal`, `lf_journal_file` and `lf_journal_run`.
+//! The tests cover `lf_journal_text`, `lf_journal` and `lf_journal_file`.
 //!
 //! Modules, in reading order:
 //!
@@ -8,7 +8,6 @@
 //! - `reading`: prefixes of a segment, changed bytes, and zeros
 //! - `crashes`: a disk that fails or tears at each call in turn
 //! - `files`: a segment in a file
-//! - `runs`: journals that are run on a floor: prefixes, changed bytes, zeros, and other replies
 #![tactic(auto)]
 
 #[cfg(test)]
@@ -17,7 +16,5 @@ mod crashes;
 mod files;
 #[cfg(test)]
 mod reading;
-#[cfg(test)]
-mod runs;
 #[cfg(test)]
 mod texts;
