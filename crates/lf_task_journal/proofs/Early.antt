@@ -15,7 +15,7 @@ use Rattle.lf_task_journal.specs.Journals.{IsJournalFault, IsRefusalAt}
 use Rattle.lf_task_journal.specs.Begun.{IsNotBegun, IsNotRunOn}
 
 lefs_early : (gives : ReadsFile) (lefs : List (List ℕ)) (fault : Fault) → IsLefUnread gives lefs fault → IsEarly fault
-lefs_early gives [] fault memory = subst IsEarly (sym memory) tt
+lefs_early gives [] fault is = absurd is
 lefs_early gives (path ∷ paths) fault (inl unread) = unread_early gives Lef path fault unread
 lefs_early gives (path ∷ paths) fault (inr later) = lefs_early gives paths fault later
 

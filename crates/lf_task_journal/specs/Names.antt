@@ -10,6 +10,10 @@ use Rattle.lf_task_designs.specs.Designs.{ReadsFile, IsUnread}
 abbrev pub HasName : ReadsFile → List ℕ → List ℕ → Type 0
 HasName gives path name = (text : List ℕ) × gives path (Some text) × (name ≡ state_name text)
 
+-- The name of the text of the file was added to others.
+abbrev pub AddsName : ReadsFile → List ℕ → List (List ℕ) → List (List ℕ) → Type 0
+AddsName gives path old new = (name : List ℕ) × HasName gives path name × (new ≡ old ++ name ∷ [])
+
 -- The names of the texts of the files, in order.
 abbrev pub AreNames : ReadsFile → List (List ℕ) → List (List ℕ) → Type 0
 AreNames gives [] [] = Unit {0}
@@ -35,12 +39,12 @@ IsStateNamed gives (Some path) name = HasName gives path name
 
 -- ---- why a name is not known
 
--- One of the LEF files was not read, or memory did not suffice for the names.
+-- One of the LEF files was not read.
 abbrev pub IsLefUnread : ReadsFile → List (List ℕ) → Fault → Type 0
-IsLefUnread gives [] fault = fault ≡ SetupOutOfMemory
+IsLefUnread gives [] fault = ⊥
 IsLefUnread gives (path ∷ paths) fault = IsUnread gives Lef path fault ⊎ IsLefUnread gives paths fault
 
--- One of the files of the design was not read, or memory did not suffice for the names.
+-- One of the files of the design was not read.
 abbrev pub IsLineUnread : ReadsFile → List ℕ → List (List ℕ) → Fault → Type 0
 IsLineUnread gives def lefs fault = IsUnread gives Def def fault ⊎ IsLefUnread gives lefs fault
 

@@ -3,7 +3,7 @@
 ghost use Rattle.std.specs.Prelude.{map, IfErr, IfOk, OnOk};
 ghost use Rattle.lf_task_designs.specs.Designs.{IsUnread};
 ghost use Rattle.lf_task_files.specs.Inputs.{path_of};
-ghost use Rattle.lf_task_journal.specs.Names.{AreAdded, HasName, IsLefUnread, IsLineOf, IsLineUnread, IsStateNamed, IsStateUnread};
+ghost use Rattle.lf_task_journal.specs.Names.{AddsName, AreAdded, HasName, IsLefUnread, IsLineOf, IsLineUnread, IsStateNamed, IsStateUnread};
 
 use lf_journal_text::{design_line, text_name};
 use lf_task_designs::{InputFiles, def_file, lef_file, read_text};
@@ -25,6 +25,24 @@ fn name_of_file<'a, T: InputFiles>(
     Ok(name)
 }
 
+/// Appends the name of the text of a file.
+fn put_name_of_file<'a, T: InputFiles>(
+    alloc: Global,
+    texts: &T,
+    names: &mut Vec<Vec<u8>>,
+    file: TextFile<'a>,
+) -> Result<(), Fault<'a>>
+    ensures ok { OnOk result (AddsName (T.gives texts.now) file.entry.path.now (map (λ name. name.items) names.old.items)
+        (map (λ name. name.items) names.new.items)) }
+    ensures err { IfErr result (IsUnread (T.gives texts.now) file.entry.kind file.entry.path.now) }
+{
+    let name = name_of_file(alloc, texts, file)?;
+    match names.push(name) {
+        Ok(()) => Ok(()),
+        Err(_) => Err(Fault::SetupOutOfMemory),
+    }
+}
+
 /// Appends the names of the texts of LEF files.
 fn put_lef_names<'a, T: InputFiles>(
     alloc: Global,
@@ -38,10 +56,7 @@ fn put_lef_names<'a, T: InputFiles>(
     ensures err { IfErr result (IsLefUnread (T.gives texts.now) (map (λ lef. lef.now) lefs.now)) }
 {
     for lef in lefs {
-        let name = name_of_file(alloc, texts, lef_file(lef))?;
-        if names.push(name).is_err() {
-            return Err(Fault::SetupOutOfMemory);
-        }
+        put_name_of_file(alloc, texts, names, lef_file(lef))?;
     }
     Ok(())
 }
@@ -58,11 +73,8 @@ pub(crate) fn line_of_files<'a, T: InputFiles>(
         (λ line. IsLineOf (T.gives texts.now) def.now (map (λ lef. lef.now) lefs.now) sessions line.items) }
     ensures err { IfErr result (IsLineUnread (T.gives texts.now) def.now (map (λ lef. lef.now) lefs.now)) }
 {
-    let first = name_of_file(alloc, texts, def_file(def))?;
     let mut names = Vec::new(alloc);
-    if names.push(first).is_err() {
-        return Err(Fault::SetupOutOfMemory);
-    }
+    put_name_of_file(alloc, texts, &mut names, def_file(def))?;
     put_lef_names(alloc, texts, lefs, &mut names)?;
     let line = design_line(alloc, u64::from(sessions), &names)?;
     Ok(line)
