@@ -44,7 +44,7 @@ last_first (first ∷ firsts) [] second d within = refl
 last_first (first ∷ firsts) (o ∷ others) second d within =
     ap (λ (rest : List SavedTeam). gathered_team first o ∷ rest) (last_first firsts others second d (omega (arith, within)))
 
--- a row that is gathered leaves the rest to be gathered
+-- A row that is gathered leaves the rest to be gathered.
 pub one_gathered : (firsts rest left : List SavedTeamRow) (second d new : SavedTeamRow) (k : ℕ) → k ≡ length rest → length rest < length firsts
     → left ≡ rest ++ second ∷ [] → team_view new ≡ gathered_team (team_view (get_or firsts k d)) (team_view second)
     → gathered_teams (team_views (slice_set firsts k new)) (team_views rest) ≡ gathered_teams (team_views firsts) (team_views left)

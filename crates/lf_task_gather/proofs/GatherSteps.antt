@@ -1,9 +1,6 @@
 -- Gathering states one after the other.
-use Rattle.std.proofs.Common.{◌≡◌, ◌∙◌, inl, inr, ℕ, ◌+◌, ◌<◌, ◌==◌, Bool, true, false, List, [], ◌∷◌, Some, length, map, drop, slice_index_or, ap, subst, sym, refl}
+use Rattle.std.proofs.Common.{◌≡◌, ◌∙◌, inl, inr, ℕ, ◌+◌, ◌<◌, ◌==◌, Bool, true, false, List, [], ◌∷◌, Some, length, drop, slice_index_or, subst}
 use Rattle.std.specs.Prelude.{if◌then◌else◌}
-use Rattle.std.specs.Borrow.{Bor}
-use Rattle.std.proofs.Math.Numerals.{suc-eq-add-one}
-use Rattle.std.proofs.Math.Seq.{drop-cons}
 use Rattle.lf_floorplan.specs.declared.frame.Frame.{Frame}
 use Rattle.lf_floorplan.specs.declared.limits.Limits.{Limits}
 use Rattle.lf_state_text.specs.Designs.{NamedDesign}
@@ -16,6 +13,7 @@ use Rattle.lf_floor.proofs.Alike.{restored_alike}
 use Rattle.lf_task_faults.specs.declared.faults.Fault.{Fault}
 use Rattle.lf_task_faults.specs.declared.faults.Fault.TheVariants.{SetupOutOfMemory}
 use Rattle.lf_task_designs.specs.Designs.{ReadsFile}
+use Rattle.lf_task_designs.proofs.DesignSteps.{Path, ahead, written}
 use Rattle.lf_task_gather.specs.GatheredStates.{AddStates, AddsState, AreGathered, AreNotAdded, IsGatheredFloor, IsNotAdded, IsNotGathered, StopsGathering}
 
 -- ---- the rows of a design
@@ -24,7 +22,7 @@ either : (P : SavedTeam → Type 0) (c : Bool) (a b : SavedTeam) → P a → P b
 either P true a b first second = first
 either P false a b first second = second
 
--- gathered teams are those of the design
+-- Gathered teams are those of the design.
 pub gathered_due : (limits : Limits) (teams : List TeamState) (firsts others : List SavedTeam) → MatchDesign limits teams firsts → MatchDesign limits teams others
     → MatchDesign limits teams (gathered_teams firsts others)
 gathered_due limits [] [] [] one two = tt
@@ -37,22 +35,13 @@ gathered_due limits (t ∷ teams) (a ∷ firsts) (b ∷ others) one two =
 
 -- ---- one state after the other
 
-abbrev Path : Type 0
-Path = Bor (List ℕ)
-
-abbrev written : List Path → List (List ℕ)
-written paths = map (λ path. path.now) paths
-
--- what completes the remaining states completes all of them
+-- What completes the remaining states completes all of them.
 pub record Continues (gives : ReadsFile) (names : NamedDesign) (f : Frame) (first now : List SavedTeam) (all left : List (List ℕ)) : Type 0 where
   pub states : (new : List SavedTeam) → AddStates gives names left now new → AddStates gives names all first new
   pub fault : (fault : Fault) → AreNotAdded gives names f left now fault → AreNotAdded gives names f all first fault
 
 pub begins : (gives : ReadsFile) (names : NamedDesign) (f : Frame) (first : List SavedTeam) (all : List (List ℕ)) → Continues gives names f first first all all
 begins gives names f first all = record { states = λ new added. added; fault = λ fault is. is }
-
-ahead : (paths : List Path) (i : ℕ) (d : Path) → i < length paths → written (drop i paths) ≡ (slice_index_or paths i d).now ∷ written (drop (i + 1) paths)
-ahead paths i d lt = ap written (drop-cons paths i d lt ∙ ap (λ n. slice_index_or paths i d ∷ drop n paths) (suc-eq-add-one i))
 
 pub one_more : (gives : ReadsFile) (names : NamedDesign) (f : Frame) (first now next : List SavedTeam) (paths : List Path) (i : ℕ) (d : Path) → i < length paths
     → Continues gives names f first now (written paths) (written (drop i paths)) → AddsState gives names (slice_index_or paths i d).now now next
@@ -75,7 +64,7 @@ fails_here gives names f first now paths i d fault lt on is =
 
 -- ---- floors of one design
 
--- what is gathered on a floor of the design is gathered on the opened one
+-- What is gathered on a floor of the design is gathered on the opened one.
 pub gathered_alike : (gives : ReadsFile) (first : List ℕ) (others : List (List ℕ)) (opened bare floor : FloorState) → ShareDesign opened bare
     → (all : List SavedTeam) × AreGathered gives (design_names bare) first others all × (floor ≡ restored_floor bare all)
     → IsGatheredFloor gives first others opened floor

@@ -49,7 +49,7 @@ not_added_early gives loaded f (path ∷ paths) old fault (inl (inl none)) = unb
 not_added_early gives loaded f (path ∷ paths) old fault (inl (inr differs)) = team_early f path differs.2.0 fault differs.2.2
 not_added_early gives loaded f (path ∷ paths) old fault (inr later) = not_added_early gives loaded f paths later.0 fault later.2
 
--- a fault of the states is reported before anything is written
+-- A fault of the states is reported before anything is written.
 pub unopened_early : (gives : ReadsFile) (states : List (List ℕ)) (loaded : Loaded) (fault : Fault) → IsUnopenedGathered gives states (initial_floor loaded) fault → IsEarly fault
 unopened_early gives [] loaded fault memory = subst IsEarly (sym memory) tt
 unopened_early gives (first ∷ others) loaded fault (inl memory) = subst IsEarly (sym memory) tt
@@ -59,7 +59,7 @@ unopened_early gives (first ∷ others) loaded fault (inr (inr later)) =
 
 -- ---- what is written
 
--- outputs that are not written, after their paths were tried
+-- Outputs that are not written, after their paths were tried.
 pub outputs_unwritten : (save export : Option (List ℕ)) (text : List ℕ) (document : Document) (floor : FloorState) (old tried new : Option (List Put)) (fault : Fault)
     → tried ≡ old
     → (IsOutputFault Export export fault × (new ≡ tried)) ⊎ (IsOutputFault Save save fault × IsExported export text document floor tried new)
@@ -68,11 +68,11 @@ outputs_unwritten save export text document floor old tried new fault same (inl 
 outputs_unwritten save export text document floor old tried new fault same (inr (is, exported)) =
     inr (is, subst (λ (puts : Option (List Put)). IsExported export text document floor puts new) same exported)
 
--- a gathered floor has the components of the opened one
+-- A gathered floor has the components of the opened one.
 pub gathered_components : (opened floor : FloorState) → ShareDesign opened floor → floor.components ≡ opened.components
 gathered_components opened floor one = one.components
 
--- a floor that was gathered and written
+-- A floor that was gathered and written.
 pub done_on : (r : Result ℕ Fault) (Gathered : FloorState → Type 0) (IsStatus : FloorState → ℕ → Type 0) (IsWritten : FloorState → Type 0)
     (floor : FloorState) → Gathered floor → IfOk r (IsStatus floor) → IfOk r (λ status. IsWritten floor)
     → IfOk r (λ status. (now : FloorState) × Gathered now × IsStatus now status × IsWritten now)

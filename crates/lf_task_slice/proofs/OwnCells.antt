@@ -10,7 +10,7 @@ use Rattle.lf_cells.specs.declared.cell.Cell.{Cell}
 use Rattle.lf_cells.specs.Initial.{initial_cell, own_cells}
 use Rattle.lf_task_slice.specs.Slices.{AreOwnCells, IsSameCell}
 
--- one cell more
+-- One cell more.
 one_more : (cells : List LoadedCell) (k : ℕ) (c : LoadedCell) → slice_get cells k ≡ Some c → take (k + 1) cells ≡ take k cells ++ c ∷ []
 one_more cells k c there =
     take_more cells k c (slice_get_within cells k c there) ∙ ap (λ (x : LoadedCell). take k cells ++ x ∷ []) (get_or_from_slice_get cells k c c there)
@@ -26,7 +26,7 @@ own_one number c own = ap (λ (b : Bool). map initial_cell (cond b (c ∷ []) []
 not_own : (number : ℕ) (c : LoadedCell) → (c.team == number) ≡ false → own_cells number (c ∷ []) ≡ []
 not_own number c other = ap (λ (b : Bool). map initial_cell (cond b (c ∷ []) [])) other
 
--- the cells of the team so far
+-- The cells of the team so far.
 pub record AreOwnSoFar (number : ℕ) (whole part : List LoadedCell) (at own : ℕ) : Type 0 where
   pub same : own_cells number (take at whole) ≡ own_cells number (take own part)
   pub alone : All (λ c. c.team ≡ number) (take own part)
@@ -34,7 +34,7 @@ pub record AreOwnSoFar (number : ℕ) (whole part : List LoadedCell) (at own : �
 pub no_cells_yet : (number : ℕ) (whole part : List LoadedCell) → AreOwnSoFar number whole part 0 0
 no_cells_yet number whole part = record { same = refl; alone = All-nil (λ (c : LoadedCell). c.team ≡ number) }
 
--- a cell of the team that the part has next
+-- A cell of the team that the part has next.
 pub own_more : (number : ℕ) (whole part : List LoadedCell) (at own : ℕ) (cell : LoadedCell) → AreOwnSoFar number whole part at own → slice_get whole at ≡ Some cell
     → cell.team ≡ number → IsSameCell part own cell number → AreOwnSoFar number whole part (at + 1) (own + 1)
 own_more number whole part at own cell so_far there is_own is = record {
@@ -48,7 +48,7 @@ own_more number whole part at own cell so_far there is_own is = record {
       (All-cons (λ (c : LoadedCell). c.team ≡ number) is.other [] is.team (All-nil (λ (c : LoadedCell). c.team ≡ number))));
 }
 
--- a cell of another team
+-- A cell of another team.
 pub other_more : (number : ℕ) (whole part : List LoadedCell) (at own : ℕ) (cell : LoadedCell) → AreOwnSoFar number whole part at own → slice_get whole at ≡ Some cell
     → (cell.team == number) ≡ false → AreOwnSoFar number whole part (at + 1) own
 other_more number whole part at own cell so_far there other = record {
@@ -58,7 +58,7 @@ other_more number whole part at own cell so_far there other = record {
   alone = so_far.alone;
 }
 
--- all cells
+-- All cells.
 pub all_own : (number : ℕ) (whole part : List LoadedCell) (at own : ℕ) → AreOwnSoFar number whole part at own → length whole ≤ at → length part ≤ own
     → AreOwnCells number whole part
 all_own number whole part at own so_far end part_end = record {

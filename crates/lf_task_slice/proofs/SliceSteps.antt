@@ -68,11 +68,11 @@ pub on_ok : (r : Result ℕ Fault) (P Q : Type 0) → OnOk r P → (P → Q) →
 on_ok (Ok status) P Q is gives = gives is
 on_ok (Err fault) P Q is gives = tt
 
--- a text that is not a slice is found before anything is written
+-- A text that is not a slice is found before anything is written.
 pub unsliced_early : (fault : Fault) → (fault ≡ SetupOutOfMemory) ⊎ (fault ≡ SliceDiffers) → IsEarly fault
 unsliced_early fault (inl memory) = subst IsEarly (sym memory) tt
 unsliced_early fault (inr differs) = subst IsEarly (sym differs) tt
 
--- what is written after the path was tried
+-- What is written after the path was tried.
 pub put_on : (old tried new : Option (List Put)) (path text : List ℕ) → tried ≡ old → PutsFile tried new path text → PutsFile old new path text
 put_on old tried new path text same put = subst (λ (puts : Option (List Put)). PutsFile puts new path text) same put

@@ -21,7 +21,7 @@ use Rattle.lf_task_run.specs.Teams.{IsUnknown}
 
 -- ---- what is compared
 
--- the frames have the same header, core site, rows, fences, obstacles and soft blockages
+-- The frames have the same header, core site, rows, fences, obstacles and soft blockages.
 pub record AreSameFrames (f g : Frame) : Type 0 where
   pub header : f.header ≡ g.header
   pub site : f.site ≡ g.site
@@ -31,20 +31,20 @@ pub record AreSameFrames (f g : Frame) : Type 0 where
   pub obstacles : f.obstacles ≡ g.obstacles
   pub soft : f.soft ≡ g.soft
 
--- the cell at that position is of the team of that number, with the same name, macro and place
+-- The cell at that position is of the team of that number, with the same name, macro and place.
 pub record IsSameCell (part : List LoadedCell) (at : ℕ) (cell : LoadedCell) (number : ℕ) : Type 0 where
   pub other : LoadedCell
   pub there : slice_get part at ≡ Some other
   pub team : other.team ≡ number
   pub same : initial_cell cell ≡ initial_cell other
 
--- the part has the cells of the team of that number, in their order, and no others
+-- The part has the cells of the team of that number, in their order, and no others.
 pub record AreOwnCells (number : ℕ) (whole part : List LoadedCell) : Type 0 where
   pub own : own_cells number whole ≡ own_cells number part
   pub alone : All (λ c. c.team ≡ number) part
 
--- over the library the text has a design with the same frame as the whole one, the cells of the team
--- of that number, and no others
+-- Over the library the text has a design with the same frame as the whole one, the cells of the team
+-- of that number, and no others.
 pub record IsPartOf (limits : Limits) (library : Contents) (number : ℕ) (whole : Loaded) (text : List ℕ) : Type 0 where
   pub part : Loaded
   pub loads : IsDesignIn limits library text part
@@ -53,8 +53,8 @@ pub record IsPartOf (limits : Limits) (library : Contents) (number : ℕ) (whole
 
 -- ---- the slice
 
--- the text is a slice of the design for the team: over the same library it reads and loads as a
--- design that is alike to it for the team, and that has no cells of other teams
+-- The text is a slice of the design for the team: over the same library it reads and loads as a
+-- design that is alike to it for the team, and that has no cells of other teams.
 pub record IsSliceOf (limits : Limits) (library : Contents) (team : List ℕ) (whole : Loaded) (text : List ℕ)
     : Type 0 where
   pub part : Loaded
@@ -62,28 +62,28 @@ pub record IsSliceOf (limits : Limits) (library : Contents) (team : List ℕ) (w
   pub alike : AreDesignsAlike team whole part
   pub alone : All (λ c. team_number whole.frame team ≡ Some c.team) part.cells
 
--- a slice of the design for the team is written to the file of the path
+-- A slice of the design for the team is written to the file of the path.
 pub record IsSlicedDesign (limits : Limits) (library : Contents) (team output : List ℕ) (whole : Loaded)
     (old new : Option (List Put)) : Type 0 where
   pub slice : List ℕ
   pub is_slice : IsSliceOf limits library team whole slice
   pub written : PutsFile old new output slice
 
--- the same for the design of a DEF text
+-- The same for the design of a DEF text.
 abbrev pub IsSliceInText : Limits → Contents → List ℕ → List ℕ → List ℕ → Option (List Put) → Option (List Put) → Type 0
 IsSliceInText limits library text team output old new =
     (document : Document) × (document_of text ≡ Ok document)
     × ((loaded : Loaded) × IsLoadedIn limits library document loaded
     × IsSlicedDesign limits library team output loaded old new)
 
--- the same for the design of a DEF file
+-- The same for the design of a DEF file.
 abbrev pub IsSliceOfFile : ReadsFile → Limits → Contents → List ℕ → List ℕ → List ℕ → Option (List Put)
     → Option (List Put) → Type 0
 IsSliceOfFile gives limits library def team output old new =
     (text : List ℕ) × gives def (Some text) × IsSliceInText limits library text team output old new
 
--- the design of the files was opened, and a slice of it for the team is written to the file of the
--- path
+-- The design of the files was opened, and a slice of it for the team is written to the file of the
+-- path.
 pub record IsSliceWritten (limits : Limits) (gives : ReadsFile) (def : List ℕ) (lefs : List (List ℕ))
     (team output : List ℕ) (old new : Option (List Put)) : Type 0 where
   pub library : Contents
@@ -92,33 +92,33 @@ pub record IsSliceWritten (limits : Limits) (gives : ReadsFile) (def : List ℕ)
 
 -- ---- faults
 
--- why no slice of the design is written: it has no such team; the file cannot be written; an
--- allocation failed; or the text that was cut is not a slice
+-- Why no slice of the design is written: it has no such team; the file cannot be written; an
+-- allocation failed; or the text that was cut is not a slice.
 abbrev pub IsUnsliced : List ℕ → List ℕ → Loaded → Fault → Type 0
 IsUnsliced team output loaded fault =
     IsUnknown loaded.frame (team ∷ []) fault
     ⊎ (IsOutputFault Slice (Some output) fault ⊎ ((fault ≡ SetupOutOfMemory) ⊎ (fault ≡ SliceDiffers)))
 
--- the same for a DEF text, which may have no design
+-- The same for a DEF text, which may have no design.
 abbrev pub IsUnslicedText : Limits → Contents → List ℕ → List ℕ → List ℕ → List ℕ → Fault → Type 0
 IsUnslicedText limits library def text team output fault =
     IsRefusedText Def def text (IsDefRefusal limits library text) fault
     ⊎ ((loaded : Loaded) × IsDesignIn limits library text loaded × IsUnsliced team output loaded fault)
 
--- the same for a DEF file, which may not be read
+-- The same for a DEF file, which may not be read.
 abbrev pub IsUnslicedFile : ReadsFile → Limits → Contents → List ℕ → List ℕ → List ℕ → Fault → Type 0
 IsUnslicedFile gives limits library def team output fault =
     IsUnread gives Def def fault
     ⊎ ((text : List ℕ) × gives def (Some text) × IsUnslicedText limits library def text team output fault)
 
--- why no slice is written: the fault of the LEF files, or that of the DEF file over their library
+-- Why no slice is written: the fault of the LEF files, or that of the DEF file over their library.
 abbrev pub IsSliceFault : Limits → ReadsFile → List ℕ → List (List ℕ) → List ℕ → List ℕ → Fault → Type 0
 IsSliceFault limits gives def lefs team output fault =
     IsLibraryFault gives no_library lefs fault
     ⊎ ((library : Contents) × IsLibraryOf gives no_library lefs library
     × IsUnslicedFile gives limits library def team output fault)
 
--- what a fault means if the task uses only files, given whether such a file had failed earlier and
--- has failed now
+-- What a fault means if the task uses only files, given whether such a file had failed earlier and
+-- has failed now.
 abbrev pub BlamesFiles : Fault → Bool → Bool → Type 0
 BlamesFiles fault before now = BlamesDevices fault (Unit {0}) ⊥ ⊥ (now ≡ true) ⊥ (now ≡ before)

@@ -35,7 +35,7 @@ impl<'a> TextSource for SliceInMemory<'a> {
 
 /// What is requested: the team and the path of the file to write.
 #[derive(Clone, Copy)]
-struct SliceWish<'a> {
+struct SliceRequest<'a> {
     team: &'a str,
     output: &'a str,
     limits: Limits,
@@ -92,24 +92,24 @@ fn put_slice<'a, E: OutputFiles>(
     library: &Library,
     text: &[u8],
     loaded: &Loaded,
-    wish: SliceWish<'a>,
+    request: SliceRequest<'a>,
     exports: &mut E,
 ) -> Result<u8, Fault<'a>>
-    requires loads { IsDesignIn wish.limits library.now text.now loaded.now }
+    requires loads { IsDesignIn request.limits library.now text.now loaded.now }
     ensures status { IfOk result (λ status. status ≡ 0) }
-    ensures ok { OnOk result (IsSlicedDesign wish.entry.limits library.now wish.entry.team.now wish.entry.output.now
+    ensures ok { OnOk result (IsSlicedDesign request.entry.limits library.now request.entry.team.now request.entry.output.now
         loaded.now (E.puts exports.old) (E.puts exports.new)) }
-    ensures err { IfErr result (λ fault. IsUnsliced wish.entry.team.now wish.entry.output.now loaded.now fault
+    ensures err { IfErr result (λ fault. IsUnsliced request.entry.team.now request.entry.output.now loaded.now fault
         × BlamesFiles fault (E.has_failed exports.old) (E.has_failed exports.new)) }
     ensures unput { OnErr result (E.puts exports.new ≡ E.puts exports.old) }
 {
-    let number = known_team(loaded, wish.team)?;
-    check_output_path(OutputKind::Slice, Some(wish.output), exports)?;
-    let slice = slice_of(alloc, wish.limits, library, text, loaded, number)?;
+    let number = known_team(loaded, request.team)?;
+    check_output_path(OutputKind::Slice, Some(request.output), exports)?;
+    let slice = slice_of(alloc, request.limits, library, text, loaded, number)?;
     let source = SliceInMemory {
         bytes: slice.as_slice(),
     };
-    put_file(OutputKind::Slice, wish.output, &source, exports)?;
+    put_file(OutputKind::Slice, request.output, &source, exports)?;
     Ok(0)
 }
 
@@ -119,19 +119,19 @@ fn slice_text_of<'a, E: OutputFiles>(
     library: &Library,
     def: &'a str,
     text: &[u8],
-    wish: SliceWish<'a>,
+    request: SliceRequest<'a>,
     exports: &mut E,
 ) -> Result<u8, Fault<'a>>
     ensures status { IfOk result (λ status. status ≡ 0) }
-    ensures ok { OnOk result (IsSliceInText wish.entry.limits library.now text.now wish.entry.team.now
-        wish.entry.output.now (E.puts exports.old) (E.puts exports.new)) }
-    ensures err { IfErr result (λ fault. IsUnslicedText wish.entry.limits library.now def.now text.now
-        wish.entry.team.now wish.entry.output.now fault
+    ensures ok { OnOk result (IsSliceInText request.entry.limits library.now text.now request.entry.team.now
+        request.entry.output.now (E.puts exports.old) (E.puts exports.new)) }
+    ensures err { IfErr result (λ fault. IsUnslicedText request.entry.limits library.now def.now text.now
+        request.entry.team.now request.entry.output.now fault
         × BlamesFiles fault (E.has_failed exports.old) (E.has_failed exports.new)) }
     ensures unput { OnErr result (E.puts exports.new ≡ E.puts exports.old) }
 {
-    let loaded = load_text(alloc, wish.limits, library, def, text)?;
-    put_slice(alloc, library, text, &loaded, wish, exports)
+    let loaded = load_text(alloc, request.limits, library, def, text)?;
+    put_slice(alloc, library, text, &loaded, request, exports)
 }
 
 /// Reads the file of the path `def`, and writes the slice of its design over the library.
@@ -140,19 +140,19 @@ fn slice_file<'a, T: InputFiles, E: OutputFiles>(
     texts: &T,
     library: &Library,
     def: &'a str,
-    wish: SliceWish<'a>,
+    request: SliceRequest<'a>,
     exports: &mut E,
 ) -> Result<u8, Fault<'a>>
     ensures status { IfOk result (λ status. status ≡ 0) }
-    ensures ok { OnOk result (IsSliceOfFile (T.gives texts.now) wish.entry.limits library.now def.now
-        wish.entry.team.now wish.entry.output.now (E.puts exports.old) (E.puts exports.new)) }
-    ensures err { IfErr result (λ fault. IsUnslicedFile (T.gives texts.now) wish.entry.limits library.now def.now
-        wish.entry.team.now wish.entry.output.now fault
+    ensures ok { OnOk result (IsSliceOfFile (T.gives texts.now) request.entry.limits library.now def.now
+        request.entry.team.now request.entry.output.now (E.puts exports.old) (E.puts exports.new)) }
+    ensures err { IfErr result (λ fault. IsUnslicedFile (T.gives texts.now) request.entry.limits library.now def.now
+        request.entry.team.now request.entry.output.now fault
         × BlamesFiles fault (E.has_failed exports.old) (E.has_failed exports.new)) }
     ensures unput { OnErr result (E.puts exports.new ≡ E.puts exports.old) }
 {
     let text = read_text(texts, def_file(def))?;
-    slice_text_of(alloc, library, def, text.as_slice(), wish, exports)
+    slice_text_of(alloc, library, def, text.as_slice(), request, exports)
 }
 
 /// Writes the slice of the team of a design of files to the file of the path `output`. The state of
@@ -182,11 +182,11 @@ pub fn slice_files<'a, T: InputFiles, E: OutputFiles>(
         limits,
         ..
     } = inputs;
-    let wish = SliceWish {
+    let request = SliceRequest {
         team,
         output,
         limits,
     };
     let library = library_of(alloc, texts, lefs)?;
-    slice_file(alloc, texts, &library, def, wish, exports)
+    slice_file(alloc, texts, &library, def, request, exports)
 }

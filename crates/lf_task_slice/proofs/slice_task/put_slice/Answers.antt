@@ -8,7 +8,7 @@ use Rattle.lf_task_slice.proofs.slice_task.put_slice.Goals as goal
 pub returns-clause-ok : goal.returns-clause-ok
 returns-clause-ok g c = record {
   slice = c.in_ok-slice.slice.items;
-  is_slice = is_slice c.args.wish.limits c.args.library.now c.args.wish.team.now c.args.text.now c.in_ok-slice.slice.items c.in_ok-number.number c.args.loaded.now c.requires.loads
+  is_slice = is_slice c.args.request.limits c.args.library.now c.args.request.team.now c.args.text.now c.in_ok-slice.slice.items c.in_ok-number.number c.args.loaded.now c.requires.loads
       c.in_ok-number.ensures.ok c.in_ok-slice.ensures.ok;
   written = put_on _ _ _ _ _ _ c.check_output_path.ensures.unput (rw c.as_slice-source.ensures.value at c.in_ok-put_file.ensures.ok);
 }

@@ -21,5 +21,5 @@ returns-in_err-loaded-clause-err g c =
     rw (p.1, p.2) (
       inl c.in_err-loaded.ensures.err,
       early_blames _ _ _ _ _ _ _ tt refl
-          (refused_early Def c.args.def.now c.args.text.now (IsDefRefusal c.args.wish.limits c.args.library.now c.args.text.now) _ c.in_err-loaded.ensures.err),
+          (refused_early Def c.args.def.now c.args.text.now (IsDefRefusal c.args.request.limits c.args.library.now c.args.text.now) _ c.in_err-loaded.ensures.err),
     )
