@@ -1,10 +1,12 @@
 use Rattle.std.proofs.Common.{◌∙◌, map, refl, rules, subst}
+use Rattle.std.proofs.lemmas.Result.{err_from_is_err_and}
 use Rattle.lf_floorplan.specs.declared.frame.Frame.{Frame}
 use Rattle.lf_task_run.specs.Commands.{kept_text}
 use Rattle.lf_task_repair.specs.Reports.{AddsTeamLines, reach_of_rows}
 use Rattle.lf_task_run.specs.Teams.{selected_at}
 use Rattle.lf_task_repair.proofs.Staying.{all_stayed, none_stayed, one_more_stayed}
 use Rattle.lf_task_run.proofs.Running.{none_changes, nothing_requested, one_more_untouched, then_requested, then_kept}
+use Rattle.lf_task_repair.proofs.Refusals.{of_later}
 use Rattle.lf_task_repair.proofs.TeamLines.{every_reported, next_reported, none_reported}
 use Rattle.lf_task_repair.proofs.repairing.repair_teams.Goals as goal
 
@@ -44,3 +46,9 @@ pub returns-clause-reported : goal.returns-clause-reported
 returns-clause-reported g c =
     every_reported _ c.args.floor.now.frame (map (λ team. team.now) c.args.plan.now.teams.now) c.loop-number.number c.args.floor.now c.loop-number.floor c.args.report.now
     c.loop-number.report (search rules) c.loop-number.invariant.reported
+
+pub returns-in_err-repair_numbered-clause-err : goal.returns-in_err-repair_numbered-clause-err
+returns-in_err-repair_numbered-clause-err g c =
+    let p = err_from_is_err_and c.from_residual.result c.from_residual.ensures.1 in
+    rw (p.1, p.2) (of_later (map (λ team. team.now) c.args.plan.now.teams.now) c.args.floor.now c.loop-number.floor _ c.loop-number.invariant.only.frame
+    c.in_err-repair_numbered.ensures.err)
