@@ -1,17 +1,19 @@
 -- Gathering states one after the other.
-use Rattle.std.proofs.Common.{◌≡◌, ◌∙◌, inl, inr, ℕ, ◌+◌, ◌<◌, ◌==◌, Bool, true, false, List, [], ◌∷◌, Some, length, drop, slice_index_or, subst}
+use Rattle.std.proofs.Common.{◌≡◌, ◌∙◌, ◌++◌, ◌≤◌, ap, append-nil, arith, inl, inr, ℕ, ◌+◌, ◌<◌, ◌==◌, Bool, true, false, List, [], ◌∷◌, length, drop, refl, slice_index_or, subst, sym, take}
+use Rattle.std.proofs.lemmas.List.{drop_all, length-map, take_all}
 use Rattle.std.specs.Prelude.{if◌then◌else◌}
 use Rattle.lf_floorplan.specs.declared.frame.Frame.{Frame}
 use Rattle.lf_floorplan.specs.declared.limits.Limits.{Limits}
 use Rattle.lf_state_text.specs.Designs.{NamedDesign}
-use Rattle.lf_state_text.specs.Saved.{IsSavedTeamOf, SavedTeam}
+use Rattle.lf_state_text.specs.Saved.{IsSavedTeamOf, SavedTeam, team_view, team_views}
+use Rattle.lf_state_text.specs.declared.saved_rows.SavedTeamRow.{SavedTeamRow}
 use Rattle.lf_state_gather.specs.Gathered.{gathered_teams}
 use Rattle.lf_floor_model.specs.States.{FloorState, TeamState}
 use Rattle.lf_floor.specs.Saved.{MatchDesign, ShareDesign, design_names, named_team, restored_floor}
+use Rattle.lf_floor.proofs.Framing.{due_many}
 use Rattle.lf_floor.proofs.Restoring.{named_alike}
 use Rattle.lf_floor.proofs.Alike.{restored_alike}
 use Rattle.lf_task_faults.specs.declared.faults.Fault.{Fault}
-use Rattle.lf_task_faults.specs.declared.faults.Fault.TheVariants.{SetupOutOfMemory}
 use Rattle.lf_task_designs.specs.Designs.{ReadsFile}
 use Rattle.lf_task_designs.proofs.DesignSteps.{Path, ahead, written}
 use Rattle.lf_task_gather.specs.GatheredStates.{AddStates, AddsState, AreGathered, AreNotAdded, IsGatheredFloor, IsNotAdded, IsNotGathered, StopsGathering}
@@ -32,6 +34,26 @@ gathered_due limits (t ∷ teams) [] others one two = absurd one
 gathered_due limits (t ∷ teams) (a ∷ firsts) [] one two = absurd two
 gathered_due limits (t ∷ teams) (a ∷ firsts) (b ∷ others) one two =
     (either (λ s. IsSavedTeamOf limits (named_team [] t) s) (b.revision == 0) a b one.0 two.0, gathered_due limits teams firsts others one.1 two.1)
+
+-- Rows of two states of the design are as many.
+pub rows_many : (limits : Limits) (teams : List TeamState) (firsts others : List SavedTeamRow) → MatchDesign limits teams (team_views firsts)
+    → MatchDesign limits teams (team_views others) → length others ≡ length firsts
+rows_many limits teams firsts others one two =
+    sym (length-map others team_view) ∙ due_many limits teams (team_views others) two ∙ sym (due_many limits teams (team_views firsts) one)
+    ∙ length-map firsts team_view
+
+-- So are the rows after gathering.
+pub rows_stay : (limits : Limits) (teams : List TeamState) (firsts others now : List SavedTeamRow) → MatchDesign limits teams (team_views firsts)
+    → MatchDesign limits teams (team_views others) → team_views now ≡ gathered_teams (team_views firsts) (team_views others) → length now ≡ length firsts
+rows_stay limits teams firsts others now one two same =
+    rows_many limits teams firsts now one
+    (subst (MatchDesign limits teams) (sym same) (gathered_due limits teams (team_views firsts) (team_views others) one two))
+
+-- A slice of all rows is all of them.
+pub put_back : (rows now : List SavedTeamRow) (len : ℕ) → len ≡ length rows → length now ≡ length rows → take len (now ++ drop (length now) rows) ≡ now
+put_back rows now len all many =
+    ap (λ (rest : List SavedTeamRow). take len (now ++ rest)) (drop_all (length now) rows (omega (arith, many)))
+    ∙ ap (take len) (append-nil now) ∙ take_all len now (omega (arith, all, many))
 
 -- ---- one state after the other
 
@@ -61,6 +83,12 @@ fails_here gives names f first now paths i d fault lt on is =
     let here : Continues gives names f first now (written paths) ((slice_index_or paths i d).now ∷ written (drop (i + 1) paths)) =
     subst (λ (left : List (List ℕ)). Continues gives names f first now (written paths) left) (ahead paths i d lt) on in
     here.fault fault (inl is)
+
+-- At the end, all states were added.
+pub all_added : (gives : ReadsFile) (names : NamedDesign) (f : Frame) (first now : List SavedTeam) (paths : List Path) (i : ℕ) → length paths ≤ i
+    → Continues gives names f first now (written paths) (written (drop i paths)) → AddStates gives names (written paths) first now
+all_added gives names f first now paths i all on =
+    on.states now (subst (λ (rest : List Path). AddStates gives names (written rest) now now) (sym (drop_all i paths all)) refl)
 
 -- ---- floors of one design
 

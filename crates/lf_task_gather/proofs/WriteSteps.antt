@@ -1,6 +1,7 @@
 -- Faults of gathering, and what is written.
 use Rattle.std.specs.Prelude.{Err, IfOk, Result}
-use Rattle.std.proofs.Common.{Ok, ◌≡◌, ◌⊎◌, ◌∙◌, inl, inr, ap, subst, sym, refl, ℕ, ◌+◌, List, [], ◌∷◌, Option, Some, length}
+use Rattle.std.proofs.Common.{Ok, ◌≡◌, ◌⊎◌, ◌∙◌, inl, inr, ap, subst, sym, ℕ, ◌+◌, List, [], ◌∷◌, Option, Some, length}
+use Rattle.std.proofs.lemmas.List.{length-map}
 use Rattle.lf_def.specs.Document.{Document}
 use Rattle.lf_floorplan.specs.declared.frame.Frame.{Frame}
 use Rattle.lf_floorplan.specs.declared.loaded.Loaded.{Loaded}
@@ -8,7 +9,8 @@ use Rattle.lf_io.specs.Shelf.{Put}
 use Rattle.lf_state_text.specs.Saved.{SavedTeam}
 use Rattle.lf_floor_model.specs.Designs.{initial_floor}
 use Rattle.lf_floor_model.specs.States.{FloorState}
-use Rattle.lf_floor.specs.Saved.{ShareDesign, design_names}
+use Rattle.lf_floor_model.proofs.Openings.{opening_whole}
+use Rattle.lf_floor.specs.Saved.{ShareDesign, design_names, fixed_cells}
 use Rattle.lf_task_faults.specs.declared.faults.Fault.{Fault}
 use Rattle.lf_task_faults.specs.declared.faults.Fault.TheVariants.{Refused, File, RefusedState, RefusedJournal, NoTeam, RefusedTeam, TeamDiffers, SliceDiffers, ReadFault, WriteFault, TooManyLines, OutOfMemory, Output, Bind, Accept, NotWritten, SetupOutOfMemory, OutputOutOfMemory}
 use Rattle.lf_task_faults.specs.declared.faults.OutputKind.TheVariants.{Export, Save}
@@ -17,7 +19,7 @@ use Rattle.lf_task_designs.specs.Designs.{ReadsFile}
 use Rattle.lf_task_files.specs.Exits.{IsExported}
 use Rattle.lf_task_files.specs.Faults.{IsOutputFault}
 use Rattle.lf_task_files.proofs.WorkSteps.{unbegun_early}
-use Rattle.lf_task_gather.specs.Exits.{IsOpenedGathered, IsUnopenedGathered, IsUnwrittenFloor}
+use Rattle.lf_task_gather.specs.Exits.{IsUnopenedGathered, IsUnwrittenFloor}
 use Rattle.lf_task_gather.specs.GatheredStates.{AreNotAdded, IsTeamFault}
 
 -- ---- early faults
@@ -67,6 +69,12 @@ pub outputs_unwritten : (save export : Option (List ℕ)) (text : List ℕ) (doc
 outputs_unwritten save export text document floor old tried new fault same (inl (is, unput)) = inl (inl (inl is), unput ∙ same)
 outputs_unwritten save export text document floor old tried new fault same (inr (is, exported)) =
     inr (is, subst (λ (puts : Option (List Put)). IsExported export text document floor puts new) same exported)
+
+-- It has a team for each fence, and one more.
+pub teams_many : (design : Loaded) (floor : FloorState) → ShareDesign (initial_floor design) floor → length floor.teams ≡ length design.frame.teams + 1
+teams_many design floor same =
+    sym (length-map floor.teams fixed_cells) ∙ ap (λ (cells : List (List (List ℕ × ℕ))). length cells) same.cells
+    ∙ length-map (initial_floor design).teams fixed_cells ∙ (opening_whole design).0
 
 -- A gathered floor has the components of the opened one.
 pub gathered_components : (opened floor : FloorState) → ShareDesign opened floor → floor.components ≡ opened.components

@@ -6,9 +6,8 @@ use Rattle.lf_task_designs.specs.declared.opening.SourceText.{SourceText}
 use Rattle.lf_task_designs.specs.Designs.{AreKept}
 use Rattle.lf_task_files.specs.Exits.{CanBePut}
 use Rattle.lf_task_files.proofs.KeptTexts.{can_be_put}
-use Rattle.lf_task_files.proofs.Looking.{teams_many}
 use Rattle.lf_task_files.proofs.WorkSteps.{early_blames}
-use Rattle.lf_task_gather.proofs.WriteSteps.{gathered_components, done_on, unopened_early}
+use Rattle.lf_task_gather.proofs.WriteSteps.{gathered_components, done_on, teams_many, unopened_early}
 use Rattle.lf_task_gather.proofs.gather_task.gather_design.Goals as goal
 
 pub write_floor-requires : goal.write_floor-requires
