@@ -1,5 +1,5 @@
 -- Elements in place of those after the last one of a list.
-use Rattle.std.proofs.Common.{ℤ, pos, []}
+use Rattle.std.proofs.Common.{pos, []}
 use Rattle.lf_units.specs.declared.geometry.Rect.{Rect}
 use Rattle.lf_orient.specs.declared.Orient.TheVariants.{N}
 use Rattle.lf_floorplan.specs.declared.parts.Row.{Row}

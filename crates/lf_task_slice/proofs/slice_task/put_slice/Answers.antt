@@ -1,4 +1,4 @@
-use Rattle.std.proofs.Common.{◌∙◌, inl, inr, refl, List, ℕ, Option}
+use Rattle.std.proofs.Common.{◌∙◌, ◌∷◌, [], inl, inr, refl}
 use Rattle.std.proofs.lemmas.Result.{err_from_is_err_and}
 use Rattle.lf_task_files.proofs.WorkSteps.{early_blames, export_blames}
 use Rattle.lf_task_run.proofs.Ends.{unknown_early}
@@ -10,13 +10,13 @@ returns-clause-ok g c = record {
   slice = c.in_ok-slice.slice.items;
   is_slice = is_slice c.args.request.limits c.args.library.now c.args.request.team.now c.args.text.now c.in_ok-slice.slice.items c.in_ok-number.number c.args.loaded.now c.requires.loads
       c.in_ok-number.ensures.ok c.in_ok-slice.ensures.ok;
-  written = put_on _ _ _ _ _ _ c.check_output_path.ensures.unput (rw c.as_slice-source.ensures.value at c.in_ok-put_file.ensures.ok);
+  written = put_on _ _ _ _ _ c.check_output_path.ensures.unput (rw c.as_slice.ensures.value at c.in_ok-put_file.ensures.ok);
 }
 
 pub returns-in_err-number-clause-err : goal.returns-in_err-number-clause-err
 returns-in_err-number-clause-err g c =
     let p = err_from_is_err_and c.from_residual.result c.from_residual.ensures.1 in
-    rw (p.1, p.2) (inl c.in_err-number.ensures.err, early_blames _ _ _ _ _ _ _ tt refl (unknown_early c.args.loaded.now.frame _ _ c.in_err-number.ensures.err))
+    rw (p.1, p.2) (inl c.in_err-number.ensures.err, early_blames _ _ _ _ _ _ _ tt refl (unknown_early c.args.loaded.now.frame (c.args.request.team.now ∷ []) _ c.in_err-number.ensures.err))
 
 pub returns-in_err-check_output_path-clause-err : goal.returns-in_err-check_output_path-clause-err
 returns-in_err-check_output_path-clause-err g c =
