@@ -18,7 +18,7 @@ use Rattle.lf_floorplan.specs.declared.limits.Limits.{Limits}
 use Rattle.lf_io.specs.Shelf.{Put}
 use Rattle.lf_task_files.specs.Inputs.{path_of}
 use Rattle.lf_task_files.proofs.WorkSteps.{early_blames}
-use Rattle.lf_task_hub.specs.Hubs.{IsFailure, IsOfHub}
+use Rattle.lf_task_hub.specs.Hubs.{IsFailure as IsHubFailure, IsOfHub}
 use Rattle.lf_task_files.specs.declared.inputs.DesignInput.{DesignInput}
 use Rattle.lf_task_run.specs.Tasks.{IsTaskDone, IsTaskNotDone, Means, Request, request_of}
 use Rattle.lf_task_run.specs.Outputs.{BlamesOutputs}
@@ -99,7 +99,7 @@ stops_untouched r nothing work also more same untouched is keeps gives =
 -- ---- hubs
 
 -- A failure of a hub blames none of these devices.
-failure_blames : (kept reader writer export service sound : Type 0) (fault : Fault) → IsFailure fault
+failure_blames : (kept reader writer export service sound : Type 0) (fault : Fault) → IsHubFailure fault
     → BlamesDevices fault kept reader writer export service sound
 failure_blames kept reader writer export service sound (Refused file its) is = absurd is
 failure_blames kept reader writer export service sound (File file why) is = absurd is
@@ -118,7 +118,7 @@ failure_blames kept reader writer export service sound (Bind port why) is = absu
 failure_blames kept reader writer export service sound Accept is = absurd is
 failure_blames kept reader writer export service sound (Hub folder why) is = record {
   early = λ of. absurd of;
-  reading = λ same. absurd (subst IsFailure same tt);
+  reading = λ same. absurd (subst IsHubFailure same tt);
   writing = λ of. absurd of;
   exporting = λ of. absurd of;
   serving = λ of. absurd of;
