@@ -49,6 +49,15 @@ enum Named<'a> {
         save: Option<&'a str>,
         export: Option<&'a str>,
     },
+    Hub {
+        def: &'a str,
+        lefs: &'a [&'a str],
+        begin: Option<&'a str>,
+        sessions: u32,
+        teams: &'a [&'a str],
+        sockets: &'a str,
+        journal: &'a str,
+    },
     Repair {
         def: &'a str,
         lefs: &'a [&'a str],
@@ -146,6 +155,23 @@ fn as_named<'a>(task: &'a Task<'a>) -> Named<'a> {
             connections: *connections,
             save: *save,
             export: *export,
+        },
+        Task::Hub {
+            def,
+            lefs,
+            begin,
+            slots,
+            teams,
+            sockets,
+            journal,
+        } => Named::Hub {
+            def: *def,
+            lefs: lefs.as_slice(),
+            begin: *begin,
+            sessions: slots.number,
+            teams: teams.as_slice(),
+            sockets: *sockets,
+            journal: *journal,
         },
         Task::Repair {
             def,
@@ -321,6 +347,35 @@ fn words_name_the_most_lines(rt: HostRuntime) -> Result<(), Fail> {
         };
         assert!(rt; names(rt.alloc(), line, &replay)?);
     }
+    Ok(())
+}
+
+#[test]
+fn words_name_a_hub(rt: HostRuntime) -> Result<(), Fail> {
+    let hub = Named::Hub {
+        def: "a",
+        lefs: &["b"],
+        begin: None,
+        sessions: 8,
+        teams: &[],
+        sockets: "s",
+        journal: "j",
+    };
+    assert!(rt; names(rt.alloc(), "lefence hub a b --sockets s --journal j", &hub)?);
+    let hub = Named::Hub {
+        def: "a",
+        lefs: &["b"],
+        begin: Some("x"),
+        sessions: 3,
+        teams: &["A", "-"],
+        sockets: "s",
+        journal: "j",
+    };
+    let line = "lefence hub --team A --team - --begin x --sessions 3 --journal=j --sockets=s a b";
+    assert!(rt; names(rt.alloc(), line, &hub)?);
+    let nothing = Named::Nothing(UsageFault::Usage);
+    let lines = ["lefence hub a b --sockets s", "lefence hub a b --journal j"];
+    assert!(rt; all_name(rt.alloc(), lines.as_slice(), &nothing)?);
     Ok(())
 }
 
