@@ -10,7 +10,7 @@ use Rattle.lf_task_faults.specs.declared.faults.Fault.TheVariants.{Refused, File
 use Rattle.lf_task_designs.specs.Designs.{ReadsFile}
 use Rattle.lf_task_faults.specs.Faults.{BlamesDevices, status_of}
 use Rattle.lf_app.specs.Exits.{IsJobOutcome}
-use Rattle.lf_task_serve.specs.Exits.{Streams}
+use Rattle.lf_task_serve.specs.Exits.{IsUndone, Streams}
 use Rattle.lf_task_serve.specs.Surroundings.{Io, IsSound}
 use Rattle.lf_task_files.specs.Faults.{IsDone, IsFailure}
 use Rattle.std.specs.Borrow.{Bor}
@@ -95,6 +95,22 @@ stops_untouched r nothing work also more same untouched is keeps gives =
     by : (fault : Fault) → (nothing fault × same) ⊎ work fault → (nothing fault × untouched) ⊎ work fault
     by fault (inl none) = inl (none.0, keeps none.1)
     by fault (inr some) = inr some
+
+-- ---- jobs on lines
+
+-- Why a job on lines fails, with equal limits and paths.
+pub undone_at : (limits limits' : Limits) (gives : ReadsFile) (def def' : List ℕ) (lefs lefs' : List (List ℕ)) (state state' journal save save' export export' : Option (List ℕ))
+    (why : FloorState → Fault → Streams → Type 0) (Work : FloorState → FloorState → Streams → Type 0) (io : Streams) (r : Result ℕ Fault) (also : Fault → Type 0)
+    → def ≡ def' → lefs ≡ lefs' → state ≡ state' → limits ≡ limits' → save ≡ save' → export ≡ export'
+    → IfErr r (λ fault. IsUndone limits gives def lefs state journal save export why Work fault io × also fault)
+    → IfErr r (λ fault. IsUndone limits' gives def' lefs' state' journal save' export' why Work fault io × also fault)
+undone_at limits limits' gives def def' lefs lefs' state state' journal save save' export export' why Work io r also same_def same_lefs same_state same_limits same_save same_export fails =
+    subst (λ (it : Limits). IfErr r (λ fault. IsUndone it gives def' lefs' state' journal save' export' why Work fault io × also fault)) same_limits
+    (subst (λ (it : List ℕ). IfErr r (λ fault. IsUndone limits gives it lefs' state' journal save' export' why Work fault io × also fault)) same_def
+    (subst (λ (it : List (List ℕ)). IfErr r (λ fault. IsUndone limits gives def it state' journal save' export' why Work fault io × also fault)) same_lefs
+    (subst (λ (it : Option (List ℕ)). IfErr r (λ fault. IsUndone limits gives def lefs it journal save' export' why Work fault io × also fault)) same_state
+    (subst (λ (it : Option (List ℕ)). IfErr r (λ fault. IsUndone limits gives def lefs state journal it export' why Work fault io × also fault)) same_save
+    (subst (λ (it : Option (List ℕ)). IfErr r (λ fault. IsUndone limits gives def lefs state journal save it why Work fault io × also fault)) same_export fails)))))
 
 -- ---- hubs
 

@@ -6,7 +6,7 @@ use Rattle.lf_task_run.specs.Outputs.{BlamesOutputs, WritesExportAlone, WritesNo
 use Rattle.lf_task_run.specs.Tasks.{request_of}
 use Rattle.lf_task_repair.specs.Repairs.{repair_means}
 use Rattle.lf_task_improve.specs.Works.{improve_means}
-use Rattle.lf_app.proofs.TaskSteps.{done_at, hub_blames, not_done_at, requested_at, sound_by, stops_untouched}
+use Rattle.lf_app.proofs.TaskSteps.{done_at, hub_blames, not_done_at, requested_at, sound_by, stops_untouched, undone_at}
 use Rattle.lf_app.proofs.tasks.outcome_within.Goals as goal
 
 pub returns-in-Replay-clause-ok : goal.returns-in-Replay-clause-ok
@@ -19,7 +19,8 @@ pub returns-in-Replay-clause-err : goal.returns-in-Replay-clause-err
 returns-in-Replay-clause-err g c =
     let i = rw c.in-Replay.is at c.input_of-inputs.ensures in
     let o = rw c.in-Replay.is at c.outputs_of.ensures in
-    rw c.in-Replay.is (rw (i.def_is, i.lefs_are, i.state_is, i.limits_are, o.save_is, o.export_is) at c.serve_files.ensures.err)
+    rw c.in-Replay.is (undone_at _ _ (g.D.Texts.InputFiles.gives c.args.environment.now.texts) _ _ _ _ _ _ _ _ _ _ _ _ _ _ c.serve_files.result _
+    i.def_is i.lefs_are i.state_is i.limits_are o.save_is o.export_is c.serve_files.ensures.err)
 
 pub returns-in-Serve-clause-ok : goal.returns-in-Serve-clause-ok
 returns-in-Serve-clause-ok g c =
@@ -32,7 +33,8 @@ returns-in-Serve-clause-err g c =
     let i = rw c.in-Serve.is at c.input_of-inputs.ensures in
     let o = rw c.in-Serve.is at c.outputs_of-in-Serve.ensures in
     rw c.in-Serve.is (also_fails c.serve_files-in-Serve.result _ _ _
-    (rw (i.def_is, i.lefs_are, i.state_is, i.limits_are, o.save_is, o.export_is) at c.serve_files-in-Serve.ensures.err)
+    (undone_at _ _ (g.D.Texts.InputFiles.gives c.args.environment.now.texts) _ _ _ _ _ _ _ _ _ _ _ _ _ _ c.serve_files-in-Serve.result _
+    i.def_is i.lefs_are i.state_is i.limits_are o.save_is o.export_is c.serve_files-in-Serve.ensures.err)
     (λ fault blames. blames_as fault _ _ _ _ _ _ _ _ _ _ _ _ blames (λ k. k) (λ none. absurd none) (λ w. w) (λ e. e) (λ s. s) (λ n. n)))
 
 pub returns-in-Hub-clause-ok : goal.returns-in-Hub-clause-ok
@@ -116,14 +118,14 @@ pub returns-in-Repair-clause-ok : goal.returns-in-Repair-clause-ok
 returns-in-Repair-clause-ok g c =
     let i = rw c.in-Repair.is at c.input_of-inputs.ensures in
     let job = c.job_of-job in
-    let ok = done_at _ _ _ _ (requested_at _ _ _ _ _ _ _ _ job.result i job.ensures.input (job.ensures.teams ∙ c.as_slice.ensures) refl job.ensures.files) c.run_task.result _ _ _ _ c.run_task.ensures.ok in
+    let ok = done_at _ _ _ _ (requested_at _ _ _ _ _ _ _ _ job.result i job.ensures.input (job.ensures.teams ∙ c.as_slice-in-Repair.ensures) refl job.ensures.files) c.run_task.result _ _ _ _ c.run_task.ensures.ok in
     rw c.in-Repair.is (rw c.repair_of-work.ensures at ok)
 
 pub returns-in-Repair-clause-err : goal.returns-in-Repair-clause-err
 returns-in-Repair-clause-err g c =
     let i = rw c.in-Repair.is at c.input_of-inputs.ensures in
     let job = c.job_of-job in
-    let err = not_done_at (repair_means c.repair_of-work.result.options) (g.D.Texts.InputFiles.gives c.args.environment.now.texts) (request_of job.result) _ (requested_at _ _ _ _ _ _ _ _ job.result i job.ensures.input (job.ensures.teams ∙ c.as_slice.ensures) refl job.ensures.files) c.run_task.result
+    let err = not_done_at (repair_means c.repair_of-work.result.options) (g.D.Texts.InputFiles.gives c.args.environment.now.texts) (request_of job.result) _ (requested_at _ _ _ _ _ _ _ _ job.result i job.ensures.input (job.ensures.teams ∙ c.as_slice-in-Repair.ensures) refl job.ensures.files) c.run_task.result
     (g.D.Writer.Sink.contents c.args.environment.now.writer) (g.D.Writer.Sink.contents c.run_task.new.writer)
     (g.D.Exports.OutputFiles.puts c.args.environment.now.exports) (g.D.Exports.OutputFiles.puts c.run_task.new.exports)
     (c.run_task.new.writer ≡ c.args.environment.now.writer) (g.D.Writer.Sink.has_failed c.args.environment.now.writer) (g.D.Writer.Sink.has_failed c.run_task.new.writer) (g.D.Exports.OutputFiles.has_failed c.args.environment.now.exports) (g.D.Exports.OutputFiles.has_failed c.run_task.new.exports) c.run_task.ensures.err in
