@@ -15,6 +15,7 @@ use Rattle.lf_task_serve.specs.Surroundings.{Io, IsSound}
 use Rattle.lf_task_files.specs.Faults.{IsDone, IsFailure}
 use Rattle.std.specs.Borrow.{Bor}
 use Rattle.lf_floorplan.specs.declared.limits.Limits.{Limits}
+use Rattle.lf_floor_model.specs.States.{FloorState}
 use Rattle.lf_io.specs.Shelf.{Put}
 use Rattle.lf_task_files.specs.Inputs.{path_of}
 use Rattle.lf_task_files.proofs.WorkSteps.{early_blames}

@@ -1,5 +1,7 @@
-use Rattle.std.proofs.Common.{◌≡◌, ◌∙◌, false, refl, subst, sym, true}
+use Rattle.std.proofs.Common.{◌≡◌, ◌∙◌, None, false, refl, subst, sym, true}
 use Rattle.lf_task_serve.specs.Lines.{default_most_lines}
+use Rattle.lf_task_serve.specs.Work.{AreAnswered, IsServingFault}
+use Rattle.lf_task_serve.specs.declared.line_source.LineSource.TheVariants.{Port, Reader}
 use Rattle.lf_task_serve.proofs.Answering.{streams_blame}
 use Rattle.lf_task_files.proofs.WorkSteps.{also_fails, blames_as, writer_blames}
 use Rattle.lf_task_run.specs.Outputs.{BlamesOutputs, WritesExportAlone, WritesNoFile}
@@ -19,7 +21,8 @@ pub returns-in-Replay-clause-err : goal.returns-in-Replay-clause-err
 returns-in-Replay-clause-err g c =
     let i = rw c.in-Replay.is at c.input_of-inputs.ensures in
     let o = rw c.in-Replay.is at c.outputs_of.ensures in
-    rw c.in-Replay.is (undone_at _ _ (g.D.Texts.InputFiles.gives c.args.environment.now.texts) _ _ _ _ _ _ _ _ _ _ _ _ _ _ c.serve_files.result _
+    let lines = Reader c.in-Replay.lines in
+    rw c.in-Replay.is (undone_at _ _ (g.D.Texts.InputFiles.gives c.args.environment.now.texts) _ _ _ _ _ _ _ _ _ _ _ (IsServingFault lines) (AreAnswered lines) _ c.serve_files.result _
     i.def_is i.lefs_are i.state_is i.limits_are o.save_is o.export_is c.serve_files.ensures.err)
 
 pub returns-in-Serve-clause-ok : goal.returns-in-Serve-clause-ok
@@ -32,10 +35,11 @@ pub returns-in-Serve-clause-err : goal.returns-in-Serve-clause-err
 returns-in-Serve-clause-err g c =
     let i = rw c.in-Serve.is at c.input_of-inputs.ensures in
     let o = rw c.in-Serve.is at c.outputs_of-in-Serve.ensures in
-    rw c.in-Serve.is (also_fails c.serve_files-in-Serve.result _ _ _
-    (undone_at _ _ (g.D.Texts.InputFiles.gives c.args.environment.now.texts) _ _ _ _ _ _ _ _ _ _ _ _ _ _ c.serve_files-in-Serve.result _
-    i.def_is i.lefs_are i.state_is i.limits_are o.save_is o.export_is c.serve_files-in-Serve.ensures.err)
-    (λ fault blames. blames_as fault _ _ _ _ _ _ _ _ _ _ _ _ blames (λ k. k) (λ none. absurd none) (λ w. w) (λ e. e) (λ s. s) (λ n. n)))
+    let lines = Port c.in-Serve.port c.in-Serve.connections in
+    rw c.in-Serve.is (undone_at _ _ (g.D.Texts.InputFiles.gives c.args.environment.now.texts) _ _ _ _ _ _ None _ _ _ _ (IsServingFault lines) (AreAnswered lines) _ c.serve_files-in-Serve.result _
+    i.def_is i.lefs_are i.state_is i.limits_are o.save_is o.export_is
+    (also_fails c.serve_files-in-Serve.result _ _ _ c.serve_files-in-Serve.ensures.err
+    (λ fault blames. blames_as fault _ _ _ _ _ _ _ _ _ _ _ _ blames (λ k. k) (λ none. absurd none) (λ w. w) (λ e. e) (λ s. s) (λ n. n))))
 
 pub returns-in-Hub-clause-ok : goal.returns-in-Hub-clause-ok
 returns-in-Hub-clause-ok g c =
