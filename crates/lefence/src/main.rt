@@ -14,8 +14,8 @@ mod closed_pipe;
 
 use crate::closed_pipe::{MessageWriter, WatchedWriter};
 use lf_app::{
-    Environment, FromRead, FsInputFiles, FsOutputFiles, NetListener, ProcessHost, TimedProgress, ToWrite,
-    UsageFault, run_program,
+    Environment, FromRead, FsInputFiles, FsOutputFiles, NetListener, ProcessHost, TimedProgress,
+    ToWrite, UsageFault, run_program,
 };
 use std::alloc::AllocError;
 use std::cell::Cell;
@@ -119,10 +119,5 @@ fn main(rt: HostRuntime) -> ExitCode {
         TimedProgress::new(rt.alloc(), &rt, pause(&rt), rt.stderr()),
     );
     let host = ProcessHost::new(&rt);
-    ExitCode::from(run_program(
-        rt.alloc(),
-        &mut environment,
-        &host,
-        &words,
-    ))
+    ExitCode::from(run_program(rt.alloc(), &mut environment, &host, &words))
 }
