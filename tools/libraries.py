@@ -70,8 +70,8 @@ GROUPS = {
         "many clients over one floor. `_clients` has the lines and replies of connections, `_turns` says whose line is"
         " next, and `lf_hub` joins them and has the laws. `_lines` reads the lines that the hub answers itself,"
         " `_floor` says how the floor answers the others, `_wire` is its sockets, and `_serve` has the rounds over a"
-        " wire and a journal; the others know no socket and no disk. `_host` has what `lefence hub` needs of the system. The hub"
-        " of the front is `front/lefence/hub`",
+        " wire and a journal; the others know no socket and no disk. `_host` has what `lefence hub` needs of the"
+        " system. The hub of the front is `front/lefence/hub`",
     ),
     "floor": Group(
         "lf_floor lf_floor_*",
